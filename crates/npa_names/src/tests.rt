@@ -1,0 +1,15 @@
+use super::*;
+use std::test::Fail;
+
+#[test]
+fn a_name_keeps_its_place(rt: HostRuntime) -> Result<(), Fail> {
+    let mut table = NameTable::new(rt.alloc());
+    assert!(rt; table.insert(rt.alloc(), b"key")?);
+    assert!(rt; table.insert(rt.alloc(), b"nonce")?);
+    assert!(rt; !table.insert(rt.alloc(), b"key")?);
+    assert_eq!(rt; table.len(), 2);
+    assert_eq!(rt; table.place(b"key"), Some(0));
+    assert_eq!(rt; table.place(b"nonce"), Some(1));
+    assert_eq!(rt; table.place(b"name"), None);
+    Ok(())
+}
