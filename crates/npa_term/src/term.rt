@@ -1,0 +1,35 @@
+use npa_list::List;
+
+/// An operator as it stands in a term: its number in the signature, the number of its result
+/// sort, and whether it is commutative.
+#[derive(Clone, Copy, Debug, PartialEq, Eq, Hash)]
+pub struct Op {
+    pub num: u16,
+    pub result: u16,
+    pub com: bool,
+}
+
+/// A variable: its number and the number of its sort. Two variables with one number and
+/// different sorts are different.
+#[derive(Clone, Copy, Debug, PartialEq, Eq, Hash)]
+pub struct Var {
+    pub num: u32,
+    pub sort: u16,
+}
+
+/// A term: a variable, the fresh name of a number, or an operator applied to its arguments.
+#[derive(Debug, Drop)]
+pub enum Term {
+    Var(Var),
+    Name(u32),
+    App(Op, Terms),
+}
+
+/// A list of terms.
+pub type Terms = List<Term>;
+
+/// Two terms, as those that a unifier or a matcher is to make equal.
+pub type TermPair = (Term, Term);
+
+/// A list of pairs of terms.
+pub type TermPairs = List<TermPair>;
