@@ -1,4 +1,4 @@
-ghost use Rattle.std.specs.Prelude.{◌≡◌, [], ◌∷◌, ◌++◌, length, is_none, if◌then◌else◌, IfOk, OnErr};
+ghost use Rattle.std.specs.Prelude.{◌≡◌, [], ◌∷◌, ◌++◌, length, is_none, ◌<◌, IfSome, if◌then◌else◌, IfOk, OnErr};
 ghost use Rattle.npa_names.specs.Names.{place_of};
 
 use indexmap::IndexSet;
@@ -7,7 +7,7 @@ use std::marker::Model;
 
 /// Names in the order in which they were first given, each once. A name is any list of bytes.
 /// Contracts see the table as the list of its names. A name is found in constant time.
-#[derive(Drop)]
+#[derive(Debug, Drop)]
 pub struct NameTable {
     names: IndexSet<Vec<u8>>,
 }
@@ -39,7 +39,8 @@ impl NameTable {
 
     /// The place of a name, counted from 0.
     pub fn place(&self, name: &[u8]) -> Option<usize>
-        ensures { result ≡ place_of name.now self.now }
+        ensures place { result ≡ place_of name.now self.now }
+        ensures within { IfSome result (λ k. k < length self.now) }
     {
         self.names.get_index_of(name)
     }

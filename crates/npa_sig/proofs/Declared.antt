@@ -1,0 +1,31 @@
+-- The sorts of arguments are compared from the left, and operators are declared one after another.
+use Rattle.std.proofs.Common.{◌≡◌, ◌≢◌, ℕ, suc, ◌+◌, ◌<◌, ◌≤◌, Bool, true, false, ◌&&◌, List, [], ◌∷◌, ◌++◌, refl, ap, sym, ◌∙◌, take, drop, map, length, get_or, arith, drop-cons, add-one, cond, Option, None, Some, is_some}
+use Rattle.std.proofs.lemmas.List.{drop_all}
+use Rattle.std.specs.List.{list_all}
+use Rattle.npa_term.specs.declared.term.Term.{Term}
+use Rattle.npa_names.specs.Names.{place_of}
+use Rattle.npa_sig.specs.declared.signature.OpDecl.{OpDecl}
+use Rattle.npa_sig.specs.Signature.{Signature, names_of, first_twice}
+use Rattle.npa_sig.specs.Sorting.{is_below, sort_of, all_below, well_sorted}
+
+pub all_below_apart : (sig : Signature) (ss ts : List ℕ) → length ss ≢ length ts → all_below sig ss ts ≡ false
+all_below_apart sig [] [] n = absurd (n refl)
+all_below_apart sig (s ∷ ss) (t ∷ ts) n = rest (is_below sig s t) (all_below_apart sig ss ts (λ e. n (ap suc e)))
+  where
+    rest : (b : Bool) {x : Bool} → x ≡ false → (b && x) ≡ false
+    rest true e = e
+    rest false e = refl
+all_below_apart sig [] (t ∷ ts) n = refl
+all_below_apart sig (s ∷ ss) [] n = refl
+
+pub all_below_step : (sig : Signature) (args : List Term) (sorts : List ℕ) (k : ℕ) (d : Term) → k < length args → k < length sorts →
+    all_below sig (map sort_of (drop k args)) (drop k sorts) ≡ (is_below sig (sort_of (get_or args k d)) (get_or sorts k 0) && all_below sig (map sort_of (drop (k + 1) args)) (drop (k + 1) sorts))
+all_below_step sig args sorts k d p q = rw (drop-cons args k d, drop-cons sorts k 0, add-one) refl
+
+pub all_below_ends : (sig : Signature) (args : List Term) (sorts : List ℕ) (k : ℕ) → length args ≤ k → length sorts ≤ k →
+    all_below sig (map sort_of (drop k args)) (drop k sorts) ≡ true
+all_below_ends sig args sorts k p q = ap (λ ts. all_below sig (map sort_of ts) (drop k sorts)) (drop_all k args p) ∙ ap (all_below sig []) (drop_all k sorts q)
+
+pub first_twice_step : (before : List (List ℕ)) (decls : List OpDecl) (k : ℕ) (d : OpDecl) → k < length decls →
+    first_twice before (drop k decls) ≡ cond (is_some (place_of (get_or decls k d).name before)) (Some (length before)) (first_twice (before ++ (get_or decls k d).name ∷ []) (drop (k + 1) decls))
+first_twice_step before decls k d p = rw (drop-cons decls k d, add-one) refl
