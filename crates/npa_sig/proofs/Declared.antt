@@ -1,12 +1,11 @@
 -- The sorts of arguments are compared from the left, and operators are declared one after another.
-use Rattle.std.proofs.Common.{◌≡◌, ◌≢◌, ℕ, suc, ◌+◌, ◌<◌, ◌≤◌, Bool, true, false, ◌&&◌, List, [], ◌∷◌, ◌++◌, refl, ap, sym, ◌∙◌, take, drop, map, length, get_or, arith, drop-cons, add-one, cond, Option, None, Some, is_some}
+use Rattle.std.proofs.Common.{◌≡◌, ◌≢◌, ℕ, suc, ◌+◌, ◌<◌, ◌≤◌, Bool, true, false, ◌&&◌, List, [], ◌∷◌, ◌++◌, refl, ap, ◌∙◌, drop, map, length, get_or, drop-cons, add-one, cond, Some, is_some}
 use Rattle.std.proofs.lemmas.List.{drop_all}
-use Rattle.std.specs.List.{list_all}
 use Rattle.npa_term.specs.declared.term.Term.{Term}
 use Rattle.npa_names.specs.Names.{place_of}
 use Rattle.npa_sig.specs.declared.signature.OpDecl.{OpDecl}
-use Rattle.npa_sig.specs.Signature.{Signature, names_of, first_twice}
-use Rattle.npa_sig.specs.Sorting.{is_below, sort_of, all_below, well_sorted}
+use Rattle.npa_sig.specs.Signature.{Signature, first_twice}
+use Rattle.npa_sig.specs.Sorting.{is_below, sort_of, all_below}
 
 pub all_below_apart : (sig : Signature) (ss ts : List ℕ) → length ss ≢ length ts → all_below sig ss ts ≡ false
 all_below_apart sig [] [] n = absurd (n refl)

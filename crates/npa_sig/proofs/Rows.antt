@@ -1,9 +1,9 @@
 -- What is said of an application's arguments as a row of the term is the same said of their list.
-use Rattle.std.proofs.Common.{◌≡◌, ℕ, Bool, true, false, ◌&&◌, List, [], ◌∷◌, map, refl, ap, sym, ◌∙◌, slice_get, Option, drop, length, ◌<◌, ◌≤◌, ◌+◌, get_or, drop-cons, add-one}
+use Rattle.std.proofs.Common.{◌≡◌, ℕ, Bool, true, false, ◌&&◌, List, ◌∷◌, map, refl, ap, sym, ◌∙◌, slice_get, drop, length, ◌<◌, ◌≤◌, ◌+◌, get_or, drop-cons, add-one}
 use Rattle.std.proofs.lemmas.List.{drop_all}
 use Rattle.std.specs.List.{list_all}
 use Rattle.npa_term.specs.declared.term.Op.{Op}
-use Rattle.npa_term.specs.declared.term.Term.{Term, App, App', Row_of-Term, end_of-Term, more_of-Term, items-the_row-Term, items_hidden-the_row-Term-0}
+use Rattle.npa_term.specs.declared.term.Term.{Term, App, Row_of-Term, end_of-Term, more_of-Term, items-the_row-Term, items_hidden-the_row-Term-0}
 use Rattle.npa_term.specs.declared.term.Term.TheBlock.{hidden-the_row-Term-0}
 use Rattle.npa_sig.specs.Signature.{Signature}
 use Rattle.npa_sig.specs.Sorting.{sort_of, well_sorted, well_sorted_row, sorts_of_row, is_declared}

@@ -3,12 +3,14 @@
 #![tactic(auto)]
 
 mod fault;
+mod meaning;
 mod protocol;
 mod signature;
 mod sorting;
 mod words;
 
 pub use fault::{SigFail, UseFail};
+pub use meaning::{Scope, Scoped, resolve};
 pub use protocol::{Equation, Equations, Event, Events, Protocol, Strand, Strands};
 pub use signature::{OpDecl, OpDecls, Sig, SortNums};
 pub use sorting::{FRESH, MSG};

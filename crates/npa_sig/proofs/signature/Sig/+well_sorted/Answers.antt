@@ -1,4 +1,4 @@
-use Rattle.std.proofs.Common.{◌<◌, ◌≤◌, length, arith, sym, ◌∙◌}
+use Rattle.std.proofs.Common.{arith, sym, ◌∙◌}
 use Rattle.npa_sig.proofs.Rows.{not_declared, not_all_sorted, all_sorted}
 use Rattle.npa_sig.proofs.signature.Sig.+well_sorted.Goals as goal
 

@@ -1,4 +1,4 @@
-use Rattle.std.proofs.Common.{◌≡◌, [], length, take, drop}
+use Rattle.std.proofs.Common.{◌≡◌, [], take, drop}
 use Rattle.npa_sig.specs.Signature.{first_twice, names_of}
 use Rattle.npa_sig.proofs.signature.Sig.new.Given as goal
 

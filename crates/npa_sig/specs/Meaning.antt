@@ -1,0 +1,131 @@
+-- What a term of a text means: names are looked up, sorts are compared, and the first word at
+-- fault, in the order of the text, is told.
+use Rattle.std.specs.Prelude.{◌≡◌, ℕ, Bool, true, false, ◌&&◌, List, [], ◌∷◌, Option, None, Some, Result, Ok, Err, slice_get, cond}
+use Rattle.std.specs.Option.{option_map, option_and_then}
+use Rattle.std.specs.Str.{bytes_eq}
+use Rattle.npa_term.specs.declared.term.Var.{Var as Variable_}
+use Rattle.npa_term.specs.declared.term.Term.{Term, Var, App}
+use Rattle.npa_text.specs.declared.token.Token.{Token}
+use Rattle.npa_text.specs.declared.token.Raw.{Raw, Raw', out-Raw, Row_of-Raw, end_of-Raw, more_of-Raw}
+use Rattle.npa_sig.specs.declared.fault.UseFail.{UseFail}
+use Rattle.npa_sig.specs.declared.fault.UseFail.TheVariants as use_fail
+use Rattle.npa_sig.specs.declared.meaning.Scoped.{Scoped}
+use Rattle.npa_sig.specs.declared.meaning.Head.{Head}
+use Rattle.npa_sig.specs.declared.meaning.Head.TheVariants.{Variable, Operator}
+use Rattle.npa_sig.specs.declared.signature.OpDecl.{OpDecl}
+use Rattle.npa_sig.specs.Signature.{Signature, number_of}
+use Rattle.npa_sig.specs.Sorting.{is_below}
+use Rattle.npa_sig.specs.Words.{text_of}
+
+-- the variable that a scope gives a word
+abbrev pub variable_of : List ℕ → List Scoped → Option Variable_
+variable_of word [] = None
+variable_of word (s ∷ scope) = cond (bytes_eq word s.name) (Some s.var) (variable_of word scope)
+
+-- the operator of a number, as it stands in terms
+abbrev pub operator_at : Signature → ℕ → Option Head
+operator_at sig num = option_map (λ decl. Operator (record { num = num; result = decl.result; «com» = decl.com })) (slice_get sig.ops num)
+
+-- the operator of a name
+abbrev pub operator_of : Signature → List ℕ → Option Head
+operator_of sig word = option_and_then (operator_at sig) (number_of sig word)
+
+abbrev pub first_of_two : Option Head → Option Head → Option Head
+first_of_two (Some h) o = Some h
+first_of_two None o = o
+
+-- a word stands for a variable of the scope, or else for an operator
+abbrev pub head_of : Signature → List Scoped → List ℕ → Option Head
+head_of sig scope word = first_of_two (option_map Variable (variable_of word scope)) (operator_of sig word)
+
+abbrev pub head_sort : Head → ℕ
+head_sort (Variable v) = v.sort
+head_sort (Operator op) = op.result
+
+-- the sort of a term, which its first word tells, if it stands for something
+abbrev pub sort_at : Signature → List Scoped → List ℕ → Raw → Option ℕ
+sort_at sig scope bytes raw = option_map head_sort (head_of sig scope (text_of bytes (out-Raw raw).head))
+
+abbrev pub one_fits : Signature → Option ℕ → ℕ → Bool
+one_fits sig None t = true
+one_fits sig (Some s) t = is_below sig s t
+
+-- there are as many arguments as sorts, and each argument's sort, where it is known, is at or below
+abbrev pub all_fit : Signature → List (Option ℕ) → List ℕ → Bool
+all_fit sig [] [] = true
+all_fit sig (s ∷ ss) (t ∷ ts) = one_fits sig s t && all_fit sig ss ts
+all_fit sig [] (t ∷ ts) = false
+all_fit sig (s ∷ ss) [] = false
+
+abbrev pub is_none_left : List (Option ℕ) → Bool
+is_none_left [] = true
+is_none_left (s ∷ ss) = false
+
+abbrev pub fits_decl : Signature → List (Option ℕ) → Option OpDecl → Bool
+fits_decl sig sorts None = false
+fits_decl sig sorts (Some decl) = all_fit sig sorts decl.args
+
+-- a variable has no arguments, and an operator those that were declared
+abbrev pub fits : Signature → Head → List (Option ℕ) → Bool
+fits sig (Variable v) sorts = is_none_left sorts
+fits sig (Operator op) sorts = fits_decl sig sorts (slice_get sig.ops op.num)
+
+-- the refusal of a word that stands for nothing, and of one whose arguments don't fit it
+abbrev pub unknown : List ℕ → Token → UseFail
+unknown bytes token = use_fail.Name (text_of bytes token) token.line token.col
+
+abbrev pub unfit : List ℕ → Token → UseFail
+unfit bytes token = use_fail.Sort (text_of bytes token) token.line token.col
+
+-- the head with its arguments
+abbrev pub built : Head → List Term → Term
+built (Variable v) args = Var v
+built (Operator op) args = App op args
+
+abbrev pub with_args : Head → Result (List Term) UseFail → Result Term UseFail
+with_args h (Ok args) = Ok (built h args)
+with_args h (Err e) = Err e
+
+abbrev pub in_front : Result Term UseFail → Result (List Term) UseFail → Result (List Term) UseFail
+in_front (Ok t) (Ok ts) = Ok (t ∷ ts)
+in_front (Ok t) (Err e) = Err e
+in_front (Err e) ts = Err e
+
+-- a word is judged first, then its arguments in order
+abbrev pub judged : Signature → List ℕ → Token → Option Head → List (Option ℕ) → Result (List Term) UseFail → Result Term UseFail
+judged sig bytes token None sorts args = Err (unknown bytes token)
+judged sig bytes token (Some h) sorts args = cond (fits sig h sorts) (with_args h args) (Err (unfit bytes token))
+
+abbrev mutual
+  -- the term that a term of a text stands for, or the first word at fault
+  pub read : Signature → List Scoped → List ℕ → Raw → Result Term UseFail
+  read sig scope bytes (Raw' head n args) = judged sig bytes head (head_of sig scope (text_of bytes head)) (sorts_of_row sig scope bytes args) (read_row sig scope bytes args)
+
+  pub read_row : {m : _} → Signature → List Scoped → List ℕ → Row_of-Raw m → Result (List Term) UseFail
+  read_row sig scope bytes end_of-Raw = Ok []
+  read_row sig scope bytes (more_of-Raw r rest) = in_front (read sig scope bytes r) (read_row sig scope bytes rest)
+
+  pub sorts_of_row : {m : _} → Signature → List Scoped → List ℕ → Row_of-Raw m → List (Option ℕ)
+  sorts_of_row sig scope bytes end_of-Raw = []
+  sorts_of_row sig scope bytes (more_of-Raw r rest) = sort_at sig scope bytes r ∷ sorts_of_row sig scope bytes rest
+
+-- the same for a list of terms
+abbrev pub read_all : Signature → List Scoped → List ℕ → List Raw → Result (List Term) UseFail
+read_all sig scope bytes [] = Ok []
+read_all sig scope bytes (r ∷ rs) = in_front (read sig scope bytes r) (read_all sig scope bytes rs)
+
+-- the fault is this one, unless memory was wanting
+abbrev pub Tells : UseFail → UseFail → Type 0
+Tells use_fail.NoMemory e = Unit {0}
+Tells (use_fail.Name name line col) e = e ≡ use_fail.Name name line col
+Tells (use_fail.Sort name line col) e = e ≡ use_fail.Sort name line col
+
+abbrev pub TellsFault : UseFail → Result Term UseFail → Type 0
+TellsFault use_fail.NoMemory r = Unit {0}
+TellsFault (use_fail.Name name line col) r = r ≡ Err (use_fail.Name name line col)
+TellsFault (use_fail.Sort name line col) r = r ≡ Err (use_fail.Sort name line col)
+
+-- the answer is what the text means, unless memory was wanting
+abbrev pub Gives : Result Term UseFail → Result Term UseFail → Type 0
+Gives (Ok t) r = r ≡ Ok t
+Gives (Err e) r = TellsFault e r

@@ -1,0 +1,187 @@
+ghost use Rattle.std.specs.Prelude.{◌≡◌, map, None, Some};
+ghost use Rattle.npa_sig.specs.Meaning.{read, Gives, head_of, variable_of, operator_of, sort_at, fits, all_fit, one_fits, unknown, unfit, Tells};
+
+use crate::fault::UseFail;
+use crate::signature::Sig;
+use crate::words::word;
+use npa_list::List;
+use npa_term::{Op, Term, Var};
+use npa_text::{Name, Raw, Token};
+use std::alloc::Global;
+
+/// A name that stands for a variable.
+#[derive(Debug, Drop)]
+pub struct Scoped {
+    pub name: Name,
+    pub var: Var,
+}
+
+/// The names that stand for variables in an item of a module.
+pub type Scope = List<Scoped>;
+
+/// What the first word of a term stands for.
+#[derive(Clone, Copy, Debug)]
+enum Head {
+    Variable(Var),
+    Operator(Op),
+}
+
+/// The term that a term of a text stands for. A word stands for the variable that the scope gives
+/// it, or else for the operator of that name. A refusal names the first word at fault, in the
+/// order of the text; a wrong number or sort of arguments is a fault of the word that has them.
+pub fn resolve(
+    alloc: Global,
+    sig: &Sig,
+    scope: &Scope,
+    bytes: &[u8],
+    raw: &Raw,
+) -> Result<Term, UseFail>
+    ensures { Gives result (read sig.now scope.now bytes.now raw.now) }
+{
+    read(alloc, sig, scope.as_slice(), bytes, raw)
+}
+
+fn read(
+    alloc: Global,
+    sig: &Sig,
+    scope: &[Scoped],
+    bytes: &[u8],
+    raw: &Raw,
+) -> Result<Term, UseFail>
+    ensures { Gives result (read sig.now scope.now bytes.now raw.now) }
+{
+    let args = raw.args.as_slice();
+    let head = match head_of(sig, scope, word(bytes, raw.head)) {
+        Some(head) => head,
+        None => return Err(unknown(alloc, bytes, raw.head)),
+    };
+    if !fits(sig, scope, bytes, head, args) {
+        return Err(unfit(alloc, bytes, raw.head));
+    }
+    match head {
+        Head::Variable(v) => Ok(Term::Var(v)),
+        Head::Operator(op) => {
+            let mut terms = Vec::with_capacity(alloc, args.len())?;
+            for arg in args {
+                match read(alloc, sig, scope, bytes, arg) {
+                    Ok(t) => terms.push(t)?,
+                    Err(fault) => return Err(fault),
+                }
+            }
+            Ok(Term::App(op, List::from_vec(terms)))
+        }
+    }
+}
+
+// What the word stands for.
+fn head_of(sig: &Sig, scope: &[Scoped], word: &[u8]) -> Option<Head>
+    ensures { result ≡ head_of sig.now scope.now word.now }
+{
+    match variable_of(scope, word) {
+        Some(v) => Some(Head::Variable(v)),
+        None => operator_of(sig, word),
+    }
+}
+
+// The variable that the scope gives the word.
+#[tactic(auto, using(crate::proofs::Meanings::variable_of_step))]
+fn variable_of(scope: &[Scoped], word: &[u8]) -> Option<Var>
+    ensures { result ≡ variable_of word.now scope.now }
+{
+    for scoped in scope {
+        if word == scoped.name.as_slice() {
+            return Some(scoped.var);
+        }
+    }
+    None
+}
+
+// The operator of that name.
+fn operator_of(sig: &Sig, word: &[u8]) -> Option<Head>
+    ensures { result ≡ operator_of sig.now word.now }
+{
+    let num = sig.number_of(word)?;
+    let decl = sig.ops().get(num as usize)?;
+    Some(Head::Operator(Op {
+        num,
+        result: decl.result,
+        com: decl.com,
+    }))
+}
+
+// Whether the head takes so many arguments, each of which has a sort at or below the declared
+// one or an unknown word in front.
+fn fits(sig: &Sig, scope: &[Scoped], bytes: &[u8], head: Head, args: &[Raw]) -> bool
+    ensures { result ≡ fits sig.now head (map (sort_at sig.now scope.now bytes.now) args.now) }
+{
+    match head {
+        Head::Variable(_) => args.is_empty(),
+        Head::Operator(op) => match sig.ops().get(op.num as usize) {
+            Some(decl) => all_fit(sig, scope, bytes, args, decl.args.as_slice()),
+            None => false,
+        },
+    }
+}
+
+#[tactic(auto, using(crate::proofs::Meanings::all_fit_step, crate::proofs::Meanings::all_fit_ends))]
+fn all_fit(sig: &Sig, scope: &[Scoped], bytes: &[u8], args: &[Raw], sorts: &[u16]) -> bool
+    ensures { result ≡ all_fit sig.now (map (sort_at sig.now scope.now bytes.now) args.now) sorts.now }
+{
+    if args.len() != sorts.len() {
+        return false;
+    }
+    for k in 0..args.len() {
+        if !one_fits(sig, sort_at(sig, scope, bytes, &args[k]), sorts[k]) {
+            return false;
+        }
+    }
+    true
+}
+
+// Whether a sort, where it is known, is at or below the declared one.
+fn one_fits(sig: &Sig, sort: Option<u16>, declared: u16) -> bool
+    ensures { result ≡ one_fits sig.now sort declared }
+{
+    match sort {
+        Some(sort) => sig.is_below(sort, declared),
+        None => true,
+    }
+}
+
+// The sort of a term, which its first word tells.
+fn sort_at(sig: &Sig, scope: &[Scoped], bytes: &[u8], raw: &Raw) -> Option<u16>
+    ensures { result ≡ sort_at sig.now scope.now bytes.now raw.now }
+{
+    match head_of(sig, scope, word(bytes, raw.head))? {
+        Head::Variable(v) => Some(v.sort),
+        Head::Operator(op) => Some(op.result),
+    }
+}
+
+// The refusal of a word that stands for nothing.
+fn unknown(alloc: Global, bytes: &[u8], token: Token) -> UseFail
+    ensures { Tells result (unknown bytes.now token) }
+{
+    match List::from_slice(alloc, word(bytes, token)) {
+        Ok(name) => UseFail::Name {
+            name,
+            line: token.line,
+            col: token.col,
+        },
+        Err(_) => UseFail::NoMemory,
+    }
+}
+
+// The refusal of a word whose arguments don't fit it.
+fn unfit(alloc: Global, bytes: &[u8], token: Token) -> UseFail
+    ensures { Tells result (unfit bytes.now token) }
+{
+    match List::from_slice(alloc, word(bytes, token)) {
+        Ok(name) => UseFail::Sort {
+            name,
+            line: token.line,
+            col: token.col,
+        },
+        Err(_) => UseFail::NoMemory,
+    }
+}
