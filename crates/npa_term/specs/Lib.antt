@@ -1,1 +1,4 @@
 pub mod Bound
+pub mod Canonical
+pub mod Order
+pub mod Symbols
