@@ -1,12 +1,13 @@
 -- What the definitions by cases on a term say of an operator and its list of arguments.
 use Rattle.std.proofs.Common.{◌≡◌, ℕ, zero, suc, ◌+◌, min, List, [], ◌∷◌, length, drop, map, Ordering, Equal, refl, sym, ◌∙◌, ap, arith}
+use Rattle.std.specs.Cmp.Lexicographic.{slice_cmp}
 use Rattle.std.specs.Ordering.{nat_cmp, ordering_then}
 use Rattle.npa_term.specs.declared.term.Op.{Op}
 use Rattle.npa_term.specs.declared.term.Var.{Var as Variable}
 use Rattle.npa_term.specs.declared.term.Term.{Term, App, Row_of-Term, end_of-Term, more_of-Term, items-the_row-Term, items_hidden-the_row-Term-0}
 use Rattle.npa_term.specs.declared.term.Term.TheBlock.{hidden-the_row-Term-0}
 use Rattle.npa_term.specs.Symbols.{symbol_count, row_count, all_count}
-use Rattle.npa_term.specs.Order.{term_cmp, row_cmp, all_cmp}
+use Rattle.npa_term.specs.Order.{term_cmp, row_cmp}
 use Rattle.npa_term.specs.Canonical.{ordered, canonical, canonical_row}
 use Rattle.npa_term.specs.Bound.{applied, applied_row}
 
@@ -21,20 +22,20 @@ symbol_count_at t op ts e =
     ap symbol_count e ∙ ap (λ n. 1 + n) (row_count_is k ∙ ap all_count (items_hidden-the_row-Term-0 ts))
 
 -- rows are compared as their lists
-row_cmp_is : {m n : _} (j : Row_of-Term m) (k : Row_of-Term n) → row_cmp j k ≡ all_cmp (items-the_row-Term m j) (items-the_row-Term n k)
+row_cmp_is : {m n : _} (j : Row_of-Term m) (k : Row_of-Term n) → row_cmp j k ≡ slice_cmp term_cmp (items-the_row-Term m j) (items-the_row-Term n k)
 row_cmp_is end_of-Term end_of-Term = refl
 row_cmp_is end_of-Term (more_of-Term u us) = refl
 row_cmp_is (more_of-Term t ts) end_of-Term = refl
 row_cmp_is (more_of-Term t ts) (more_of-Term u us) = ap (λ o. ordering_then (term_cmp t u) o) (row_cmp_is ts us)
 
-pub cmp_apps : (f g : Op) (ts us : List Term) → term_cmp (App f ts) (App g us) ≡ ordering_then (nat_cmp f.num g.num) (all_cmp ts us)
+pub cmp_apps : (f g : Op) (ts us : List Term) → term_cmp (App f ts) (App g us) ≡ ordering_then (nat_cmp f.num g.num) (slice_cmp term_cmp ts us)
 cmp_apps f g ts us =
     let j = hidden-the_row-Term-0 ts in
     let k = hidden-the_row-Term-0 us in
     ap (λ o. ordering_then (nat_cmp f.num g.num) o)
-    (row_cmp_is j k ∙ ap (λ vs. all_cmp vs (items-the_row-Term _ k)) (items_hidden-the_row-Term-0 ts) ∙ ap (all_cmp ts) (items_hidden-the_row-Term-0 us))
+    (row_cmp_is j k ∙ ap (λ vs. slice_cmp term_cmp vs (items-the_row-Term _ k)) (items_hidden-the_row-Term-0 ts) ∙ ap (slice_cmp term_cmp ts) (items_hidden-the_row-Term-0 us))
 
-pub cmp_at : (t u : Term) (f g : Op) (ts us : List Term) → t ≡ App f ts → u ≡ App g us → term_cmp t u ≡ ordering_then (nat_cmp f.num g.num) (all_cmp ts us)
+pub cmp_at : (t u : Term) (f g : Op) (ts us : List Term) → t ≡ App f ts → u ≡ App g us → term_cmp t u ≡ ordering_then (nat_cmp f.num g.num) (slice_cmp term_cmp ts us)
 cmp_at t u f g ts us d e = ap (λ v. term_cmp v u) d ∙ ap (term_cmp (App f ts)) e ∙ cmp_apps f g ts us
 
 -- the canonical forms of a row are those of its list
@@ -65,12 +66,12 @@ applied_at s t op ts e = ap (applied s) e ∙ applied_app s op ts
 
 -- applications of operators with one number are compared by their arguments
 pub cmp_tied : (t u : Term) (f g : Op) (ts us : List Term) (o : Ordering) →
-    t ≡ App f ts → u ≡ App g us → o ≡ nat_cmp f.num g.num → o ≡ Equal → term_cmp t u ≡ all_cmp ts us
+    t ≡ App f ts → u ≡ App g us → o ≡ nat_cmp f.num g.num → o ≡ Equal → term_cmp t u ≡ slice_cmp term_cmp ts us
 cmp_tied t u f g ts us o d e first tied =
-    cmp_at t u f g ts us d e ∙ ap (λ p. ordering_then p (all_cmp ts us)) (sym first ∙ tied)
+    cmp_at t u f g ts us d e ∙ ap (λ p. ordering_then p (slice_cmp term_cmp ts us)) (sym first ∙ tied)
 
 -- where one list has ended, the shorter comes first
-pub cmp_ends : (n : ℕ) (ts us : List Term) → n ≡ min (length ts) (length us) → all_cmp (drop n ts) (drop n us) ≡ nat_cmp (length ts) (length us)
+pub cmp_ends : (n : ℕ) (ts us : List Term) → n ≡ min (length ts) (length us) → slice_cmp term_cmp (drop n ts) (drop n us) ≡ nat_cmp (length ts) (length us)
 cmp_ends zero [] [] e = refl
 cmp_ends (suc n) [] [] e = refl
 cmp_ends zero [] (u ∷ us) e = grind arith

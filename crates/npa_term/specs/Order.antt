@@ -1,4 +1,3 @@
-use Rattle.std.specs.Prelude.{List, [], ◌∷◌}
 use Rattle.std.specs.Ordering.{nat_cmp, ordering_then}
 use Rattle.std.specs.declared.cmp.Ordering.{Ordering}
 use Rattle.std.specs.declared.cmp.Ordering.TheVariants.{Less, Equal, Greater}
@@ -25,10 +24,3 @@ abbrev mutual
   row_cmp end_of-Term (more_of-Term u us) = Less
   row_cmp (more_of-Term t ts) end_of-Term = Greater
   row_cmp (more_of-Term t ts) (more_of-Term u us) = ordering_then (term_cmp t u) (row_cmp ts us)
-
--- Lists of terms from the left; a proper beginning comes first.
-abbrev pub all_cmp : List Term → List Term → Ordering
-all_cmp [] [] = Equal
-all_cmp [] (u ∷ us) = Less
-all_cmp (t ∷ ts) [] = Greater
-all_cmp (t ∷ ts) (u ∷ us) = ordering_then (term_cmp t u) (all_cmp ts us)

@@ -1,5 +1,6 @@
 ghost use Rattle.std.specs.Prelude.{◌≡◌};
-ghost use Rattle.npa_term.specs.Order.{term_cmp, all_cmp};
+ghost use Rattle.std.specs.Cmp.Lexicographic.{slice_cmp};
+ghost use Rattle.npa_term.specs.Order.{term_cmp};
 
 use crate::term::Term;
 use std::cmp::Ordering;
@@ -29,7 +30,7 @@ pub fn cmp(a: &Term, b: &Term) -> Ordering
 // The order of lists of terms, by their members from the left.
 #[cycle(order)]
 fn cmp_all(a: &[Term], b: &[Term]) -> Ordering
-    ensures { result ≡ all_cmp a.now b.now }
+    ensures { result ≡ slice_cmp term_cmp a.now b.now }
 {
     for i in 0..a.len().min(b.len()) {
         let order = cmp(&a[i], &b[i]);
