@@ -1,1 +1,7 @@
+pub mod AgreeingLaws
 pub mod Bindings
+pub mod CanonicalLaws
+pub mod Induction
+pub mod OrderLaws
+pub mod Rows
+pub mod SameLaws

@@ -1,4 +1,8 @@
+ghost use Rattle.std.specs.Prelude.{◌≡◌, IfOk};
+
+use crate::error::NoMemory;
 use npa_list::List;
+use std::alloc::Global;
 
 /// An operator as it stands in a term: its number in the signature, the number of its result
 /// sort, and whether it is commutative.
@@ -33,3 +37,20 @@ pub type TermPair = (Term, Term);
 
 /// A list of pairs of terms.
 pub type TermPairs = List<TermPair>;
+
+/// A copy of a term.
+pub fn copy(alloc: Global, t: &Term) -> Result<Term, NoMemory>
+    ensures { IfOk result (λ u. u ≡ t.now) }
+{
+    match t {
+        Term::Var(v) => Ok(Term::Var(*v)),
+        Term::Name(n) => Ok(Term::Name(*n)),
+        Term::App(op, args) => {
+            let mut copies = Vec::with_capacity(alloc, args.len())?;
+            for arg in args.as_slice() {
+                copies.push(copy(alloc, arg)?)?;
+            }
+            Ok(Term::App(*op, List::from_vec(copies)))
+        }
+    }
+}
