@@ -2,12 +2,16 @@
 //! outside the program.
 #![tactic(auto)]
 
+mod bytes;
 mod fault;
 mod name;
+mod numeral;
 mod place;
+mod scan;
 mod token;
 
 pub use fault::{NoMemory, TextFault};
 pub use name::{Name, Names, Word, Words};
 pub use place::Place;
-pub use token::{Kind, Lexed, Raw, Raws, Token, Tokens};
+pub use scan::{lex, tokens};
+pub use token::{Kind, Lexed, MOST_BYTES, Raw, Raws, Token, Tokens, number_of, token_text};

@@ -5,3 +5,6 @@ pub struct Place {
     pub line: u32,
     pub col: u32,
 }
+
+/// The place of the first byte of a text.
+pub(crate) const FIRST_PLACE: Place = Place { line: 1, col: 1 };

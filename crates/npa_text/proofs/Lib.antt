@@ -1,0 +1,5 @@
+pub mod Runs
+pub mod Values
+pub mod Pieces
+pub mod Widths
+pub mod Steps
