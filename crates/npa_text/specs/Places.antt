@@ -18,3 +18,7 @@ moved_over (b ∷ bs) p = moved_over bs (moved b p)
 -- the place behind so many bytes of a line
 abbrev pub along : ℕ → Place → Place
 along n p = record { line = p.line; col = p.col + n }
+
+-- the place behind the last byte of a text
+abbrev pub end_place : List ℕ → Place
+end_place bytes = moved_over bytes first_place

@@ -12,6 +12,6 @@ mod token;
 
 pub use fault::{NoMemory, TextFault};
 pub use name::{Name, Names, Word, Words};
-pub use place::Place;
+pub use place::{Place, end_place};
 pub use scan::{lex, tokens};
 pub use token::{Kind, Lexed, MOST_BYTES, Raw, Raws, Token, Tokens, number_of, token_text};

@@ -6,7 +6,7 @@ ghost use Rattle.npa_text.specs.Scans.{mark_of, numbered, token_at, gap_at, begi
 use crate::bytes::{begins_with, digit_run, is_blank, is_digit, is_letter, line_run, word_run};
 use crate::fault::{NoMemory, TextFault};
 use crate::numeral::is_numeral;
-use crate::place::{FIRST_PLACE, Place};
+use crate::place::{FIRST_PLACE, Place, moved};
 use crate::token::{Kind, Lexed, Token, Tokens};
 use std::alloc::Global;
 
@@ -110,15 +110,7 @@ impl Cursor {
         requires col { self.place.col ≤ self.at + 1 }
         ensures { result ≡ record { at = self.at + (more + 1); place = along more (moved first self.place) } }
     {
-        let Place { line, col } = self.place;
-        let next = if first == b'\n' {
-            Place {
-                line: line + 1,
-                col: 1,
-            }
-        } else {
-            Place { line, col: col + 1 }
-        };
+        let next = moved(first, self.place);
         Cursor {
             at: self.at + (more + 1),
             place: Place {
