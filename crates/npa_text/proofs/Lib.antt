@@ -3,3 +3,4 @@ pub mod Values
 pub mod Pieces
 pub mod Widths
 pub mod Steps
+pub mod Found

@@ -5,3 +5,5 @@ pub mod Lexemes
 pub mod Scans
 pub mod Faults
 pub mod Texts
+pub mod Counts
+pub mod Entries

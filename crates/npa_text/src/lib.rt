@@ -4,14 +4,18 @@
 
 mod bytes;
 mod fault;
+mod memory;
 mod name;
 mod numeral;
+mod outside;
 mod place;
 mod scan;
 mod token;
 
 pub use fault::{NoMemory, TextFault};
+pub use memory::{Marks, MemEntries, MemEntry};
 pub use name::{Name, Names, Word, Words};
+pub use outside::{Files, PutFail, ReadFail, Sink};
 pub use place::{Place, end_place};
 pub use scan::{lex, tokens};
 pub use token::{Kind, Lexed, MOST_BYTES, Raw, Raws, Token, Tokens, number_of, token_text};

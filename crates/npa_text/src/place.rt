@@ -20,7 +20,10 @@ pub(crate) fn moved(byte: u8, place: Place) -> Place
 {
     let Place { line, col } = place;
     if byte == b'\n' {
-        Place { line: line + 1, col: 1 }
+        Place {
+            line: line + 1,
+            col: 1,
+        }
     } else {
         Place { line, col: col + 1 }
     }
