@@ -2,12 +2,20 @@
 //! outside the program.
 #![tactic(auto)]
 
+mod bytes;
 mod fault;
+mod memory;
 mod name;
+mod numeral;
+mod outside;
 mod place;
+mod scan;
 mod token;
 
 pub use fault::{NoMemory, TextFault};
+pub use memory::{Marks, MemEntries, MemEntry};
 pub use name::{Name, Names, Word, Words};
-pub use place::Place;
-pub use token::{Kind, Lexed, Raw, Raws, Token, Tokens};
+pub use outside::{Files, PutFail, ReadFail, Sink};
+pub use place::{Place, end_place};
+pub use scan::{lex, tokens};
+pub use token::{Kind, Lexed, MOST_BYTES, Raw, Raws, Token, Tokens, number_of, token_text};

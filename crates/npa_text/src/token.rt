@@ -1,5 +1,13 @@
+ghost use Rattle.std.specs.Prelude.{◌≡◌, ◌≤◌, length};
+ghost use Rattle.npa_text.specs.Texts.{text_of, number_of};
+
+use crate::bytes::is_digit;
+use crate::numeral::decimal_value;
 use crate::place::Place;
 use npa_list::List;
+
+/// The greatest number of bytes of a text.
+pub const MOST_BYTES: usize = 1_048_576;
 
 /// What a token is. Each mark has a kind of its own.
 #[derive(Clone, Copy, Debug, PartialEq, Eq)]
@@ -65,3 +73,25 @@ pub struct Raw {
 
 /// The terms in a pair of brackets, in order.
 pub type Raws = List<Raw>;
+
+/// The bytes of a token. Of a token that isn't one of these bytes it is what there is of its span.
+pub fn token_text(bytes: &[u8], token: Token) -> &[u8]
+    ensures { result.now ≡ text_of bytes.now token }
+{
+    let end = (token.end as usize).min(bytes.len());
+    let start = (token.start as usize).min(end);
+    &bytes[start..end]
+}
+
+/// The number in a number, a fresh name or a variable mark. Every such token of a text has one below
+/// 2^32; of another span whose digits stand for more it is 2^32 - 1.
+pub fn number_of(bytes: &[u8], token: Token) -> u32
+    ensures { result ≡ number_of bytes.now token }
+{
+    let text = token_text(bytes, token);
+    let digits = match text {
+        [first, rest @ ..] if !is_digit(*first) => rest,
+        _ => text,
+    };
+    decimal_value(digits).min(u32::MAX as u64) as u32
+}

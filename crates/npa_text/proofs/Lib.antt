@@ -1,0 +1,6 @@
+pub mod Runs
+pub mod Values
+pub mod Pieces
+pub mod Widths
+pub mod Steps
+pub mod Found
