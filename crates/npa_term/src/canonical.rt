@@ -26,8 +26,8 @@ pub fn canon(alloc: Global, t: &Term) -> Result<Term, NoMemory>
     }
 }
 
-// The arguments with the two of a commutative operator in ascending order.
-pub(crate) fn sort_arguments(op: Op, mut args: Vec<Term>) -> Terms
+/// The arguments of an operator, the two of a commutative one in ascending order.
+pub fn sort_arguments(op: Op, mut args: Vec<Term>) -> Terms
     ensures { result ≡ ordered op args.items }
 {
     if op.com {

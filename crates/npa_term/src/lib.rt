@@ -3,6 +3,7 @@
 #![tactic(auto)]
 
 mod canonical;
+mod equal;
 mod error;
 mod instances;
 mod order;
@@ -10,7 +11,8 @@ mod size;
 mod subst;
 mod term;
 
-pub use canonical::canon;
+pub use canonical::{canon, sort_arguments};
+pub use equal::same;
 pub use error::{NoMemory, TermFail};
 pub use instances::instance;
 pub use order::cmp;

@@ -1,0 +1,12 @@
+//! Runs of a protocol and the aims that they reach: instances of strands, what each step of a
+//! schedule does, and what an attack pattern asks of a run.
+#![tactic(auto)]
+
+mod aim;
+mod run;
+mod sent;
+mod values;
+
+pub use aim::{Aim, Aims, Part, Parts};
+pub use run::{Cause, Instance, Instances, Places, Run, RunFail};
+pub use values::message;

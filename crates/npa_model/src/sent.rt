@@ -1,0 +1,48 @@
+ghost use Rattle.std.specs.Prelude.{◌≡◌, [], ◌∷◌, ◌++◌, ◌↔◌, IsTrue, OnOk, OnErr, Contains};
+
+use npa_list::List;
+use npa_term::{Term, Terms};
+use std::alloc::{AllocError, Global};
+use std::marker::Model;
+
+/// The terms that were sent, in order.
+#[derive(Debug, Drop)]
+pub(crate) struct Sent {
+    terms: Terms,
+}
+
+impl Model for Sent {
+    ghost use Rattle.std.specs.Prelude.{List as ListOf};
+    ghost use Rattle.npa_term.specs.declared.term.Term.{Term};
+    ghost use Rattle.npa_term.specs.contracts.term.Term as term;
+    ghost use Rattle.std.specs.Coded.{coded_list};
+
+    ghost Value = { ListOf Term };
+
+    ghost coded = { coded_list term.the_row.coded };
+
+    ghost view = { λ s. s.terms };
+}
+
+impl Sent {
+    pub(crate) fn new(alloc: Global) -> Sent
+        ensures { result ≡ [] }
+    {
+        Sent {
+            terms: List::new(alloc),
+        }
+    }
+
+    pub(crate) fn terms(&self) -> &Terms
+        ensures { result.now ≡ self.now }
+    {
+        &self.terms
+    }
+
+    pub(crate) fn push(&mut self, term: Term) -> Result<(), AllocError>
+        ensures ok { OnOk result (self.new ≡ self.old ++ term ∷ []) }
+        ensures err { OnErr result (self.new ≡ self.old) }
+    {
+        self.terms.push(term)
+    }
+}
