@@ -1,4 +1,4 @@
-ghost use Rattle.std.specs.Prelude.{◌≡◌, [], ◌∷◌, ◌++◌, ◌<◌, ◌↔◌, length, slice_get, IsTrue, IsSome, MatchOption, IfOk, OnOk, OnErr};
+ghost use Rattle.std.specs.Prelude.{◌≡◌, [], ◌∷◌, ◌++◌, ◌<◌, ◌↔◌, length, slice_get, slice_set, IsTrue, IsSome, MatchOption, IfOk, OnOk, OnErr};
 ghost use Rattle.std.specs.Option.{option_copied};
 
 use std::alloc::{AllocError, Global};
@@ -87,6 +87,14 @@ impl<T: Drop> List<T> {
     {
         self.members.push(member)?;
         Ok(())
+    }
+
+    /// Puts a member in another's place, which is dropped.
+    pub fn set(&mut self, at: usize, member: T)
+        requires { at < length self.old }
+        ensures { self.new ≡ slice_set self.old at member }
+    {
+        self.members[at] = member;
     }
 
     /// Takes the last member off.

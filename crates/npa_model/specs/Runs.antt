@@ -2,6 +2,7 @@
 -- forwards execution as in Escobar, Meadows, Meseguer 2009). They know nothing of how a program
 -- keeps the state of a run.
 use Rattle.std.specs.Prelude.{◌≡◌, ℕ, ◌+◌, Bool, true, false, ◌==◌, List, [], ◌∷◌, ◌++◌, Option, None, Some, Result, Ok, Err, map, length, slice_get, take, count_by, Contains, All, IsTrue, replicate, drop}
+use Rattle.std.specs.Option.{option_map_or}
 use Rattle.npa_term.specs.declared.term.Term.{Term}
 use Rattle.npa_sig.specs.declared.protocol.Event.{Event}
 use Rattle.npa_sig.specs.declared.protocol.Strand.{Strand}
@@ -12,11 +13,7 @@ use Rattle.npa_model.specs.Values.{under}
 
 -- the events of an instance: those of its strand
 abbrev pub events_of : List Strand → Instance → List Event
-events_of strands instance = of (slice_get strands instance.strand)
-  where
-    of : Option Strand → List Event
-    of None = []
-    of (Some strand) = strand.events
+events_of strands instance = option_map_or (λ strand. strand.events) (slice_get strands instance.strand) []
 
 -- how many events of an instance a schedule executes
 abbrev pub executions : ℕ → List ℕ → ℕ

@@ -5,8 +5,10 @@
 mod aim;
 mod run;
 mod sent;
+mod state;
 mod values;
 
 pub use aim::{Aim, Aims, Part, Parts};
 pub use run::{Cause, Instance, Instances, Places, Run, RunFail};
+pub use state::{RunState, step_run};
 pub use values::message;

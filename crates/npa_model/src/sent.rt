@@ -1,7 +1,8 @@
 ghost use Rattle.std.specs.Prelude.{◌≡◌, [], ◌∷◌, ◌++◌, ◌↔◌, IsTrue, OnOk, OnErr, Contains};
 
+use crate::run::{Cause, RunFail};
 use npa_list::List;
-use npa_term::{Term, Terms};
+use npa_term::{Term, Terms, same};
 use std::alloc::{AllocError, Global};
 use std::marker::Model;
 
@@ -25,6 +26,8 @@ impl Model for Sent {
 }
 
 impl Sent {
+    ghost use Rattle.npa_model.specs.State.{Exchanges};
+
     pub(crate) fn new(alloc: Global) -> Sent
         ensures { result ≡ [] }
     {
@@ -44,5 +47,31 @@ impl Sent {
         ensures err { OnErr result (self.new ≡ self.old) }
     {
         self.terms.push(term)
+    }
+
+    /// Sends the term, or receives it.
+    pub(crate) fn exchange(&mut self, sends: bool, term: Term) -> Result<(), RunFail>
+        ensures { Exchanges sends term self.old self.new result }
+    {
+        if sends {
+            self.push(term)?;
+            return Ok(());
+        }
+        if !self.contains(&term) {
+            return Err(RunFail::Stop(Cause::Unsent(term)));
+        }
+        Ok(())
+    }
+
+    /// Whether the term was sent.
+    pub(crate) fn contains(&self, term: &Term) -> bool
+        ensures { IsTrue result ↔ Contains self.now term.now }
+    {
+        for sent in self.terms.as_slice() {
+            if same(sent, term) {
+                return true;
+            }
+        }
+        false
     }
 }
