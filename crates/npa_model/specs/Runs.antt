@@ -1,7 +1,7 @@
 -- Runs of a protocol, as lists of instances and steps (strand spaces: Thayer, Herzog, Guttman 1999;
 -- forwards execution as in Escobar, Meadows, Meseguer 2009). They know nothing of how a program
 -- keeps the state of a run.
-use Rattle.std.specs.Prelude.{◌≡◌, ℕ, ◌+◌, Bool, true, false, ◌==◌, List, [], ◌∷◌, ◌++◌, Option, None, Some, Result, Ok, Err, map, length, slice_get, take, count_by, Contains, All, IsTrue, replicate, drop}
+use Rattle.std.specs.Prelude.{◌≡◌, ℕ, ◌+◌, true, false, ◌==◌, List, [], ◌∷◌, ◌++◌, None, Some, Result, Ok, Err, slice_get, take, count_by, Contains}
 use Rattle.std.specs.Option.{option_map_or}
 use Rattle.npa_term.specs.declared.term.Term.{Term}
 use Rattle.npa_sig.specs.declared.protocol.Event.{Event}

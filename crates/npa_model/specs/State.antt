@@ -1,9 +1,8 @@
 -- What is seen of a run that is being executed.
-use Rattle.std.specs.Prelude.{◌≡◌, ℕ, ◌+◌, ◌<◌, List, Option, Some, None, Result, Ok, Err, slice_get, slice_set, length, slice_index, refl, Bool, true, false, ◌++◌, ◌∷◌, [], Contains}
+use Rattle.std.specs.Prelude.{◌≡◌, ℕ, ◌+◌, ◌<◌, List, Some, Result, Ok, Err, slice_get, slice_set, length, slice_index, refl, Bool, true, false, ◌++◌, ◌∷◌, [], Contains}
 use Rattle.std.specs.Coded.{Coded, code_by, coded×, coded_ℕ, coded_list}
 use Rattle.npa_term.specs.declared.term.Term.{Term}
 use Rattle.npa_sig.specs.declared.protocol.Strand.{Strand}
-use Rattle.npa_model.specs.declared.run.Cause.{Cause}
 use Rattle.npa_model.specs.declared.run.Cause.TheVariants as cause
 use Rattle.npa_model.specs.declared.run.Instance.{Instance}
 use Rattle.npa_model.specs.declared.run.RunFail.{RunFail}

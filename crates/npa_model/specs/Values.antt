@@ -1,5 +1,5 @@
 -- Terms under the values of parameters.
-use Rattle.std.specs.Prelude.{ℕ, List, [], ◌∷◌, Option, slice_get, unwrap_or}
+use Rattle.std.specs.Prelude.{List, [], ◌∷◌, slice_get, unwrap_or}
 use Rattle.npa_term.specs.declared.term.Term.{Term, Row_of-Term, end_of-Term, more_of-Term}
 use Rattle.npa_term.specs.declared.term.Term.TheVariants.{Var, Name, App, App'}
 

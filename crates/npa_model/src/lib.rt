@@ -5,6 +5,7 @@
 mod aim;
 mod run;
 mod sent;
+mod start;
 mod state;
 mod values;
 

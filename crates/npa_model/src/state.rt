@@ -17,8 +17,8 @@ use std::marker::Model;
 /// terms that were sent, in order.
 #[derive(Debug, Drop)]
 pub struct RunState {
-    counts: List<u16>,
-    sent: Sent,
+    pub(crate) counts: List<u16>,
+    pub(crate) sent: Sent,
 }
 
 impl Model for RunState {

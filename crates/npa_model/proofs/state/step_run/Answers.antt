@@ -1,10 +1,9 @@
-use Rattle.std.proofs.Common.{◌≡◌, ℕ, List, sym, ◌∙◌, ap, slice_get, slice_index, slice_set, Some, None, ◌+◌}
+use Rattle.std.proofs.Common.{◌≡◌, ℕ, List, sym, ◌∙◌, ap, slice_get, slice_index, slice_set, Some, ◌+◌}
 use Rattle.npa_term.specs.declared.term.Term.{Term}
 use Rattle.npa_term.specs.Canonical.{canonical}
 use Rattle.npa_model.specs.Values.{under}
 use Rattle.std.specs.Option.{option_copied}
 use Rattle.npa_sig.specs.declared.protocol.Event.{Event}
-use Rattle.npa_model.specs.declared.run.Instance.{Instance}
 use Rattle.npa_model.specs.State.{State}
 use Rattle.npa_model.specs.Runs.{events_of}
 use Rattle.npa_model.proofs.Stepping.{is_missing, is_ended, is_executed, is_refused, counts_on}
