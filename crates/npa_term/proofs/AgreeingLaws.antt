@@ -53,7 +53,7 @@ agrees_canonical decl =
 same_number : (m n : ℕ) → nat_cmp m n ≡ Equal → m ≡ n
 same_number m n e = grind arith
 
-same_variable : (v w : Variable) → v.num ≡ w.num → v.sort ≡ w.sort → v ≡ w
+pub same_variable : (v w : Variable) → v.num ≡ w.num → v.sort ≡ w.sort → v ≡ w
 same_variable v w d e = ap (λ n. record v { num = n }) d ∙ ap (λ s. record w { sort = s }) e
 
 mutual

@@ -3,17 +3,21 @@
 #![tactic(auto)]
 
 mod canonical;
+mod composition;
 mod error;
 mod instances;
 mod order;
+mod renaming;
 mod size;
 mod subst;
 mod term;
 
 pub use canonical::canon;
+pub use composition::compose;
 pub use error::{NoMemory, TermFail};
-pub use instances::instance;
+pub use instances::{MAX_SYMBOLS, apply, instance, symbols_under};
 pub use order::cmp;
+pub use renaming::rename;
 pub use size::symbols;
 pub use subst::{Binding, Subst, Substs};
 pub use term::{Op, Term, TermPair, TermPairs, Terms, Var, copy};
