@@ -1,10 +1,9 @@
 -- The canonical form of a term is the least of the terms that equal it modulo commutativity.
-use Rattle.std.proofs.Common.{◌≡◌, ℕ, zero, suc, ◌+◌, Bool, true, false, ◌&&◌, cond, List, [], ◌∷◌, map, Ordering, Less, Equal, Greater, refl, sym, ◌∙◌, ap, subst, arith}
+use Rattle.std.proofs.Common.{◌≡◌, Bool, true, false, ◌&&◌, cond, List, [], ◌∷◌, map, Ordering, Less, Equal, Greater, refl, sym, ◌∙◌, ap, subst}
 use Rattle.std.specs.Cmp.Lexicographic.{slice_cmp}
-use Rattle.std.specs.Ordering.{nat_cmp, ordering_then, ordering_reverse, is_gt}
-use Rattle.std.proofs.lemmas.Cmp.{upto, tied_itself, tied_back, alike_right, nat_cmp_total}
+use Rattle.std.specs.Ordering.{ordering_then, ordering_reverse, is_gt}
+use Rattle.std.proofs.lemmas.Cmp.{upto, tied_itself, alike_right, nat_cmp_total}
 use Rattle.npa_term.specs.declared.term.Op.{Op}
-use Rattle.npa_term.specs.declared.term.Var.{Var as Variable}
 use Rattle.npa_term.specs.declared.term.Term.{Term, Var, Name, App}
 use Rattle.npa_term.specs.Symbols.{symbol_count}
 use Rattle.npa_term.specs.Order.{term_cmp}
@@ -13,7 +12,7 @@ use Rattle.npa_term.specs.Same.{Same, itself, through, swapped, below, SameAll, 
 use Rattle.npa_term.proofs.Induction.{Each, by_terms}
 use Rattle.npa_term.proofs.OrderLaws.{term_cmp_total, all_cmp_total}
 use Rattle.npa_term.proofs.Rows.{cmp_apps, canonical_app}
-use Rattle.npa_term.proofs.SameLaws.{same_sym, same_count}
+use Rattle.npa_term.proofs.SameLaws.{same_count}
 
 left_of : (a b : Bool) → a && b ≡ true → a ≡ true
 left_of true b e = refl

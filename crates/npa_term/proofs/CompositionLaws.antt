@@ -1,18 +1,16 @@
 -- Composition of substitutions.
-use Rattle.std.proofs.Common.{◌≡◌, ℕ, ◌+◌, ◌-◌, ◌^◌, ◌<◌, ◌≤◌, min, Bool, true, false, nat_lt, nat_eq, ◌&&◌, cond, not, Option, Some, None, List, [], ◌∷◌, ◌++◌, length, get_or, drop, take, map, find, filter, refl, sym, ◌∙◌, ap, subst, arith}
+use Rattle.std.proofs.Common.{◌≡◌, ℕ, ◌+◌, ◌-◌, ◌^◌, ◌<◌, ◌≤◌, min, true, false, nat_lt, cond, Option, Some, None, List, [], ◌∷◌, ◌++◌, length, get_or, drop, map, find, refl, sym, ◌∙◌, ap, subst, arith}
 use Rattle.std.specs.Prelude.{⊤, unwrap_or}
-use Rattle.std.specs.Option.{is_none, is_some, option_map, option_or}
-use Rattle.std.proofs.lemmas.Grind.{common_steps}
+use Rattle.std.specs.Option.{is_none, option_map, option_or}
 use Rattle.std.proofs.lemmas.List.{drop_more, map-append}
 use Rattle.std.proofs.lemmas.List.Folds.{find-append}
-use Rattle.npa_term.specs.declared.term.Op.{Op}
 use Rattle.npa_term.specs.declared.term.Var.{Var as Variable}
 use Rattle.npa_term.specs.declared.term.Term.{Term, Var, Name, App}
 use Rattle.npa_term.specs.Bound.{same_var, value_of, BindsOnce, applied}
 use Rattle.npa_term.specs.Canonical.{canonical}
 use Rattle.npa_term.specs.Symbols.{symbol_count}
 use Rattle.npa_term.specs.Composition.{unbound, composed, first_past}
-use Rattle.npa_term.specs.Same.{Same, itself, through, below, SameAll, nothing, first}
+use Rattle.npa_term.specs.Same.{Same, itself, below, SameAll, nothing, first}
 use Rattle.npa_term.proofs.Bindings.{same_var-comm, value_of-append, not_bound}
 use Rattle.npa_term.proofs.AgreeingLaws.{same_variable}
 use Rattle.npa_term.proofs.CanonicalLaws.{canonical_same, symbol_count-canonical}

@@ -1,9 +1,9 @@
 -- Terms without variables.
-use Rattle.std.proofs.Common.{◌≡◌, List, [], ◌∷◌, ◌++◌, map, refl, sym, ◌∙◌, ap, subst, arith}
+use Rattle.std.proofs.Common.{◌≡◌, List, [], ◌∷◌, ◌++◌, map, refl, sym, ◌∙◌, ap, subst}
 use Rattle.std.specs.List.{flat_map}
 use Rattle.npa_term.specs.declared.term.Op.{Op}
 use Rattle.npa_term.specs.declared.term.Var.{Var as Variable}
-use Rattle.npa_term.specs.declared.term.Term.{Term, Var, Name, App}
+use Rattle.npa_term.specs.declared.term.Term.{Term, App}
 use Rattle.npa_term.specs.Bound.{applied}
 use Rattle.npa_term.specs.Canonical.{ordered, canonical}
 use Rattle.npa_term.specs.Variables.{variables, IsGround}

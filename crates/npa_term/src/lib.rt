@@ -23,3 +23,6 @@ pub use renaming::rename;
 pub use size::symbols;
 pub use subst::{Binding, Subst, Substs};
 pub use term::{Op, Term, TermPair, TermPairs, Terms, Var, copy};
+
+#[cfg(test)]
+mod tests;

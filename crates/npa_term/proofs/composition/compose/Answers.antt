@@ -1,6 +1,5 @@
-use Rattle.std.proofs.Common.{◌≡◌, subst, sym, ◌∙◌, arith}
+use Rattle.std.proofs.Common.{◌≡◌, subst, sym, arith}
 use Rattle.std.proofs.lemmas.Grind.{common_steps}
-use Rattle.npa_term.specs.declared.term.Term.{Term}
 use Rattle.npa_term.specs.Bound.{BindsOnce, applied}
 use Rattle.npa_term.specs.Composition.{composed}
 use Rattle.npa_term.specs.Same.{Same}

@@ -1,7 +1,7 @@
-use Rattle.std.proofs.Common.{◌≡◌, map, ◌++◌, drop, take}
+use Rattle.std.proofs.Common.{◌≡◌, map, drop}
 use Rattle.npa_term.specs.Bound.{applied}
 use Rattle.npa_term.specs.Canonical.{canonical}
-use Rattle.npa_term.specs.Composition.{unbound, first_past}
+use Rattle.npa_term.specs.Composition.{first_past}
 use Rattle.npa_term.proofs.composition.first_large_instance.Given as goal
 
 abbrev pub invariant-loop-t : goal.invariant-loop-t

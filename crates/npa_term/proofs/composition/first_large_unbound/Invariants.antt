@@ -1,5 +1,4 @@
-use Rattle.std.proofs.Common.{◌≡◌, map, ◌++◌, drop, take}
-use Rattle.npa_term.specs.Bound.{applied}
+use Rattle.std.proofs.Common.{◌≡◌, map, drop}
 use Rattle.npa_term.specs.Canonical.{canonical}
 use Rattle.npa_term.specs.Composition.{unbound, first_past}
 use Rattle.npa_term.proofs.composition.first_large_unbound.Given as goal

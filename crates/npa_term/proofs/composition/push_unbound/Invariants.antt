@@ -1,7 +1,6 @@
-use Rattle.std.proofs.Common.{◌≡◌, map, ◌++◌, drop, take}
-use Rattle.npa_term.specs.Bound.{applied}
+use Rattle.std.proofs.Common.{◌≡◌, map, ◌++◌, take}
 use Rattle.npa_term.specs.Canonical.{canonical}
-use Rattle.npa_term.specs.Composition.{unbound, first_past}
+use Rattle.npa_term.specs.Composition.{unbound}
 use Rattle.npa_term.proofs.composition.push_unbound.Given as goal
 
 abbrev pub invariant-loop-v : goal.invariant-loop-v

@@ -1,4 +1,4 @@
-use Rattle.std.proofs.Common.{◌≡◌, ◌+◌, ◌<◌, ◌^◌, map, subst, sym, ◌∙◌, ap, length, get_or, arith, rules}
+use Rattle.std.proofs.Common.{◌≡◌, ◌+◌, ◌<◌, ◌^◌, map, ◌∙◌, ap, length, get_or, arith, rules}
 use Rattle.std.proofs.lemmas.Grind.{common_steps}
 use Rattle.npa_term.specs.Symbols.{symbol_count}
 use Rattle.npa_term.specs.Variables.{renamed}
