@@ -1,8 +1,7 @@
 -- Where operators agree with one declaration, the order tells any two terms apart, and a class has
 -- one canonical form.
-use Rattle.std.proofs.Common.{◌≡◌, ℕ, ◌&&◌, cond, Bool, true, false, List, [], ◌∷◌, map, Ordering, Less, Equal, Greater, refl, sym, ◌∙◌, ap, subst, arith}
-use Rattle.std.specs.Cmp.Lexicographic.{slice_cmp}
-use Rattle.std.specs.Ordering.{nat_cmp, ordering_then, is_gt}
+use Rattle.std.proofs.Common.{◌≡◌, ℕ, List, [], ◌∷◌, map, Equal, refl, sym, ◌∙◌, ap, subst, arith}
+use Rattle.std.specs.Ordering.{nat_cmp}
 use Rattle.npa_term.specs.declared.term.Op.{Op}
 use Rattle.npa_term.specs.declared.term.Var.{Var as Variable}
 use Rattle.npa_term.specs.declared.term.Term.{Term, Var, Name, App, App', Row_of-Term, end_of-Term, more_of-Term, items-the_row-Term, items_hidden-the_row-Term-0}
@@ -53,7 +52,7 @@ agrees_canonical decl =
 same_number : (m n : ℕ) → nat_cmp m n ≡ Equal → m ≡ n
 same_number m n e = grind arith
 
-same_variable : (v w : Variable) → v.num ≡ w.num → v.sort ≡ w.sort → v ≡ w
+pub same_variable : (v w : Variable) → v.num ≡ w.num → v.sort ≡ w.sort → v ≡ w
 same_variable v w d e = ap (λ n. record v { num = n }) d ∙ ap (λ s. record w { sort = s }) e
 
 mutual

@@ -1,10 +1,9 @@
 -- The canonical form of a term is the least of the terms that equal it modulo commutativity.
-use Rattle.std.proofs.Common.{◌≡◌, ℕ, zero, suc, ◌+◌, Bool, true, false, ◌&&◌, cond, List, [], ◌∷◌, map, Ordering, Less, Equal, Greater, refl, sym, ◌∙◌, ap, subst, arith}
+use Rattle.std.proofs.Common.{◌≡◌, Bool, true, false, ◌&&◌, cond, List, [], ◌∷◌, map, Ordering, Less, Equal, Greater, refl, sym, ◌∙◌, ap, subst}
 use Rattle.std.specs.Cmp.Lexicographic.{slice_cmp}
-use Rattle.std.specs.Ordering.{nat_cmp, ordering_then, ordering_reverse, is_gt}
-use Rattle.std.proofs.lemmas.Cmp.{upto, tied_itself, tied_back, alike_right, nat_cmp_total}
+use Rattle.std.specs.Ordering.{ordering_then, ordering_reverse, is_gt}
+use Rattle.std.proofs.lemmas.Cmp.{upto, tied_itself, alike_right, nat_cmp_total}
 use Rattle.npa_term.specs.declared.term.Op.{Op}
-use Rattle.npa_term.specs.declared.term.Var.{Var as Variable}
 use Rattle.npa_term.specs.declared.term.Term.{Term, Var, Name, App}
 use Rattle.npa_term.specs.Symbols.{symbol_count}
 use Rattle.npa_term.specs.Order.{term_cmp}
@@ -13,7 +12,7 @@ use Rattle.npa_term.specs.Same.{Same, itself, through, swapped, below, SameAll, 
 use Rattle.npa_term.proofs.Induction.{Each, by_terms}
 use Rattle.npa_term.proofs.OrderLaws.{term_cmp_total, all_cmp_total}
 use Rattle.npa_term.proofs.Rows.{cmp_apps, canonical_app}
-use Rattle.npa_term.proofs.SameLaws.{same_sym, same_count}
+use Rattle.npa_term.proofs.SameLaws.{same_count}
 
 left_of : (a b : Bool) → a && b ≡ true → a ≡ true
 left_of true b e = refl
@@ -177,3 +176,53 @@ mutual
 -- the canonical form is at or below each term of the class
 pub canonical_least : (t u : Term) → Same t u → is_gt (term_cmp (canonical t) u) ≡ false
 canonical_least t u p = ap is_gt (term_cmp_total.congr (canonical t) (canonical u) u (same_tied p)) ∙ canonical_upto u
+
+-- in the words of the clause
+pub canonical_not_above : (t u : Term) → Same t u → term_cmp (canonical t) u ≡ Greater → ⊥
+canonical_not_above t u p above =
+    let no : true ≡ false = sym (ap is_gt above) ∙ canonical_least t u p in
+    cc
+
+fixed_members : (ts : List Term) → Each (λ t. canonical (canonical t) ≡ canonical t) ts → map canonical (map canonical ts) ≡ map canonical ts
+fixed_members [] each = refl
+fixed_members (t ∷ ts) each = ap (λ u. u ∷ map canonical (map canonical ts)) each.0 ∙ ap (λ us. canonical t ∷ us) (fixed_members ts each.1)
+
+-- sorted members are fixed where the members are
+fixed_ordered : (op : Op) (ts : List Term) → map canonical ts ≡ ts → map canonical (ordered op ts) ≡ ordered op ts
+fixed_ordered op ts fixed =
+    by_order (λ us. map canonical us ≡ us) op ts fixed
+    (λ t u e swaps above.
+    let two : canonical t ∷ canonical u ∷ [] ≡ t ∷ u ∷ [] = subst (λ us. map canonical us ≡ us) e fixed in
+    let fst : canonical t ≡ t = cc in
+    let snd : canonical u ≡ u = cc in
+    ap (λ v. v ∷ canonical t ∷ []) snd ∙ ap (λ v. u ∷ v ∷ []) fst)
+
+-- sorting twice is sorting once
+ordered_twice : (op : Op) (ts : List Term) → ordered op (ordered op ts) ≡ ordered op ts
+ordered_twice op [] = refl
+ordered_twice op (t ∷ []) = refl
+ordered_twice op (t ∷ u ∷ []) =
+    elim (op.com && is_gt (term_cmp t u)) as (λ b. op.com && is_gt (term_cmp t u) ≡ b → ordered op (cond b (u ∷ t ∷ []) (t ∷ u ∷ [])) ≡ cond b (u ∷ t ∷ []) (t ∷ u ∷ [])) [
+      | true ↦ λ e.
+          let less : term_cmp u t ≡ Less = term_cmp_total.antisymm u t ∙ ap ordering_reverse (above_is (term_cmp t u) (right_of op.com (is_gt (term_cmp t u)) e)) in
+          ordered_by op u t Less (left_of op.com (is_gt (term_cmp t u)) e) less
+      | false ↦ λ e. ap (λ b. cond b (u ∷ t ∷ []) (t ∷ u ∷ [])) e
+    ] refl
+ordered_twice op (t ∷ u ∷ v ∷ ts) = refl
+
+-- the canonical form is its own canonical form
+pub canonical-canonical : (t : Term) → canonical (canonical t) ≡ canonical t
+canonical-canonical =
+    by_terms (λ t. canonical (canonical t) ≡ canonical t) (λ v. refl) (λ n. refl)
+    (λ op ts each.
+    let form : canonical (App op ts) ≡ App op (ordered op (map canonical ts)) = canonical_app op ts in
+    ap canonical form ∙ canonical_app op (ordered op (map canonical ts))
+    ∙ ap (λ us. App op (ordered op us)) (fixed_ordered op (map canonical ts) (fixed_members ts each))
+    ∙ ap (App op) (ordered_twice op (map canonical ts)) ∙ sym form)
+
+-- the same of any term that is the canonical form
+pub made_same : (t u : Term) → u ≡ canonical t → Same t u
+made_same t u e = subst (Same t) (sym e) (canonical_same t)
+
+pub made_least : (t u : Term) → u ≡ canonical t → (v : Term) → Same t v → term_cmp u v ≡ Greater → ⊥
+made_least t u e v p above = canonical_not_above t v p (ap (λ w. term_cmp w v) (sym e) ∙ above)

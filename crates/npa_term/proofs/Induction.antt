@@ -1,7 +1,7 @@
 -- Induction on terms, with the arguments of an operator as a list.
 use Rattle.std.proofs.Common.{◌≡◌, ℕ, List, [], ◌∷◌, sym, ◌∙◌, ap, subst}
 use Rattle.std.specs.Prelude.{⊤}
-use mathlib.Core.Former.{Former, this, arity}
+use mathlib.Core.Former.{this, arity}
 use Rattle.npa_list.specs.formers.list.List.{the_former}
 use Rattle.npa_term.specs.declared.term.Op.{Op}
 use Rattle.npa_term.specs.declared.term.Var.{Var as Variable}

@@ -1,6 +1,8 @@
 pub mod AgreeingLaws
 pub mod Bindings
 pub mod CanonicalLaws
+pub mod CompositionLaws
+pub mod GroundLaws
 pub mod Induction
 pub mod OrderLaws
 pub mod Rows

@@ -1,12 +1,11 @@
 -- The order of terms is total. It is the lexicographic order of their spellings as lists of
 -- numbers, in which no term is the beginning of another.
-use Rattle.std.proofs.Common.{◌≡◌, ℕ, ◌+◌, List, [], ◌∷◌, Ordering, Less, Equal, Greater, refl, sym, ◌∙◌, ap, subst, arith}
+use Rattle.std.proofs.Common.{◌≡◌, ℕ, List, [], ◌∷◌, Ordering, Less, Equal, Greater, refl, sym, ◌∙◌, ap}
 use Rattle.std.specs.Cmp.{IsTotalOrder}
 use Rattle.std.specs.Cmp.Lexicographic.{slice_cmp}
-use Rattle.std.specs.Ordering.{nat_cmp, ordering_then, ordering_reverse, on, is_gt}
+use Rattle.std.specs.Ordering.{nat_cmp, ordering_then, ordering_reverse, on}
 use Rattle.std.proofs.lemmas.Cmp.{nat_list_cmp_total, on_total, lists_total}
-use Rattle.npa_term.specs.declared.term.Op.{Op}
-use Rattle.npa_term.specs.declared.term.Term.{Term, Var, Name, App, App', Row_of-Term, end_of-Term, more_of-Term}
+use Rattle.npa_term.specs.declared.term.Term.{Term, Var, Name, App', Row_of-Term, end_of-Term, more_of-Term}
 use Rattle.npa_term.specs.Order.{term_cmp, row_cmp}
 
 abbrev mutual

@@ -1,5 +1,7 @@
 -- What the definitions by cases on a term say of an operator and its list of arguments.
-use Rattle.std.proofs.Common.{◌≡◌, ℕ, zero, suc, ◌+◌, min, List, [], ◌∷◌, length, drop, map, Ordering, Equal, refl, sym, ◌∙◌, ap, arith}
+use Rattle.std.proofs.Common.{◌≡◌, ℕ, zero, suc, ◌+◌, ◌<◌, ◌≤◌, min, List, [], ◌∷◌, ◌++◌, length, length-append, get_or, drop, map, Ordering, Equal, refl, sym, ◌∙◌, ap, subst, arith}
+use Rattle.std.proofs.lemmas.List.{get_or_append_left, get_or-append-add}
+use Rattle.std.specs.List.{All, flat_map}
 use Rattle.std.specs.Cmp.Lexicographic.{slice_cmp}
 use Rattle.std.specs.Ordering.{nat_cmp, ordering_then}
 use Rattle.npa_term.specs.declared.term.Op.{Op}
@@ -10,6 +12,7 @@ use Rattle.npa_term.specs.Symbols.{symbol_count, row_count, all_count}
 use Rattle.npa_term.specs.Order.{term_cmp, row_cmp}
 use Rattle.npa_term.specs.Canonical.{ordered, canonical, canonical_row}
 use Rattle.npa_term.specs.Bound.{applied, applied_row}
+use Rattle.npa_term.specs.Variables.{variables, row_variables, renamed, renamed_row}
 
 -- the symbols of a row are those of its list
 row_count_is : {n : _} (k : Row_of-Term n) → row_count k ≡ all_count (items-the_row-Term n k)
@@ -100,3 +103,61 @@ pub instance_made : (s : List (Variable × Term)) (t : Term) (op : Op) (ts us ma
     t ≡ App op ts → us ≡ ordered op made → made ≡ map (λ u. canonical (applied s u)) ts → App op us ≡ canonical (applied s t)
 instance_made s t op ts us made e sorted is =
     canonical_made (applied s t) op (map (applied s) ts) us made (applied_at s t op ts e) sorted (is ∙ sym (map_twice s ts))
+
+-- the symbols of an instance of an operator
+pub applied_count_at : (s : List (Variable × Term)) (t : Term) (op : Op) (ts : List Term) → t ≡ App op ts → symbol_count (applied s t) ≡ 1 + all_count (map (applied s) ts)
+applied_count_at s t op ts e = symbol_count_at (applied s t) op (map (applied s) ts) (applied_at s t op ts e)
+
+-- the renamings of a row are those of its list
+renamed_row_is : {n : _} (base : ℕ) (k : Row_of-Term n) → renamed_row base k ≡ map (renamed base) (items-the_row-Term n k)
+renamed_row_is base end_of-Term = refl
+renamed_row_is base (more_of-Term t rest) = ap (λ ts. renamed base t ∷ ts) (renamed_row_is base rest)
+
+pub renamed_app : (base : ℕ) (op : Op) (ts : List Term) → renamed base (App op ts) ≡ App op (map (renamed base) ts)
+renamed_app base op ts =
+    let k = hidden-the_row-Term-0 ts in
+    ap (App op) (renamed_row_is base k ∙ ap (map (renamed base)) (items_hidden-the_row-Term-0 ts))
+
+pub renamed_made : (base : ℕ) (t : Term) (op : Op) (ts us made : List Term) → t ≡ App op ts → us ≡ made → made ≡ map (renamed base) ts → App op us ≡ renamed base t
+renamed_made base t op ts us made e same is = ap (App op) (same ∙ is) ∙ sym (ap (renamed base) e ∙ renamed_app base op ts)
+
+-- the variables of a row are those of its members
+row_variables_is : {n : _} (k : Row_of-Term n) → row_variables k ≡ flat_map variables (items-the_row-Term n k)
+row_variables_is end_of-Term = refl
+row_variables_is (more_of-Term t rest) = ap (λ vs. variables t ++ vs) (row_variables_is rest)
+
+pub variables_at : (t : Term) (op : Op) (ts : List Term) → t ≡ App op ts → variables t ≡ flat_map variables ts
+variables_at t op ts e =
+    let k = hidden-the_row-Term-0 ts in
+    ap variables e ∙ row_variables_is k ∙ ap (flat_map variables) (items_hidden-the_row-Term-0 ts)
+
+all_left : (P : Variable → Type 0) (vs ws : List Variable) → All P (vs ++ ws) → All P vs
+all_left P vs ws all = λ k d small. subst P (get_or_append_left vs ws d k small) (all k d (omega (arith, length-append vs ws)))
+
+all_right : (P : Variable → Type 0) (vs ws : List Variable) → All P (vs ++ ws) → All P ws
+all_right P vs ws all = λ k d small. subst P (get_or-append-add vs ws k d) (all (length vs + k) d (omega (arith, length-append vs ws)))
+
+-- what holds of the variables of all members holds of those of each
+pub all_member : (P : Variable → Type 0) (ts : List Term) (i : ℕ) (d : Term) → i < length ts → All P (flat_map variables ts) → All P (variables (get_or ts i d))
+all_member P [] i d small all = absurd (let no : ⊥ = omega (arith, small) in no)
+all_member P (t ∷ ts) zero d small all = all_left P (variables t) (flat_map variables ts) all
+all_member P (t ∷ ts) (suc i) d small all = all_member P ts i d (omega arith) (all_right P (variables t) (flat_map variables ts) all)
+
+-- and so it is for the arguments of an operator
+pub all_argument : (P : Variable → Type 0) (t : Term) (op : Op) (ts : List Term) (i : ℕ) (d : Term) → t ≡ App op ts → i < length ts → d ≡ get_or ts i d →
+    All P (variables t) → All P (variables d)
+all_argument P t op ts i d e small is all =
+    subst (λ u. All P (variables u)) (sym is) (all_member P ts i d small (subst (All P) (variables_at t op ts e) all))
+
+-- a member has no more symbols than the list
+pub count_member : (ts : List Term) (i : ℕ) (d : Term) → i < length ts → symbol_count (get_or ts i d) ≤ all_count ts
+count_member [] i d small = absurd (let no : ⊥ = omega (arith, small) in no)
+count_member (t ∷ ts) zero d small = omega arith
+count_member (t ∷ ts) (suc i) d small = let rest : symbol_count (get_or ts i d) ≤ all_count ts = count_member ts i d (omega arith) in omega (arith, rest)
+
+-- an argument has fewer symbols than the application
+pub count_argument : (t : Term) (op : Op) (ts : List Term) (i : ℕ) (d : Term) → t ≡ App op ts → i < length ts → d ≡ get_or ts i d → symbol_count d < symbol_count t
+count_argument t op ts i d e small is =
+    let whole : symbol_count t ≡ 1 + all_count ts = symbol_count_at t op ts e in
+    let part : symbol_count d ≤ all_count ts = subst (λ u. symbol_count u ≤ all_count ts) (sym is) (count_member ts i d small) in
+    omega (arith, whole, part)

@@ -1,8 +1,7 @@
 -- Equality modulo commutativity.
-use Rattle.std.proofs.Common.{◌≡◌, ℕ, ◌+◌, true, List, [], ◌∷◌, map, refl, sym, ◌∙◌, ap, subst, arith}
-use Rattle.npa_term.specs.declared.term.Op.{Op}
+use Rattle.std.proofs.Common.{◌≡◌, ◌+◌, List, [], ◌∷◌, map, refl, sym, ◌∙◌, ap, subst, arith}
 use Rattle.npa_term.specs.declared.term.Var.{Var as Variable}
-use Rattle.npa_term.specs.declared.term.Term.{Term, Var, Name, App, App', Row_of-Term, end_of-Term, more_of-Term}
+use Rattle.npa_term.specs.declared.term.Term.{Term, App}
 use Rattle.npa_term.specs.Bound.{applied}
 use Rattle.npa_term.specs.Symbols.{symbol_count, all_count}
 use Rattle.npa_term.specs.Same.{Same, itself, through, swapped, below, SameAll, nothing, first}

@@ -1,5 +1,9 @@
-ghost use Rattle.std.specs.Prelude.{◌≡◌, IfOk};
+ghost use Rattle.std.specs.Prelude.{◌≡◌, ◌≢◌, IfOk};
+ghost use Rattle.std.specs.declared.cmp.Ordering.TheVariants.{Greater};
+ghost use Rattle.npa_term.specs.declared.term.Term.{Term};
 ghost use Rattle.npa_term.specs.Canonical.{canonical, ordered};
+ghost use Rattle.npa_term.specs.Order.{term_cmp};
+ghost use Rattle.npa_term.specs.Same.{Same};
 
 use crate::error::NoMemory;
 use crate::order::cmp;
@@ -11,7 +15,9 @@ use std::cmp::Ordering;
 /// The canonical form of a term: the least term, in the order of `cmp`, of those that are equal
 /// to it up to the order of the arguments of commutative operators.
 pub fn canon(alloc: Global, t: &Term) -> Result<Term, NoMemory>
-    ensures { IfOk result (λ u. u ≡ canonical t.now) }
+    ensures value { IfOk result (λ u. u ≡ canonical t.now) }
+    ensures same { IfOk result (λ u. Same t.now u) }
+    ensures least { IfOk result (λ u. (v : Term) → Same t.now v → term_cmp u v ≢ Greater) }
 {
     match t {
         Term::Var(v) => Ok(Term::Var(*v)),

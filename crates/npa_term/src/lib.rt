@@ -3,19 +3,28 @@
 #![tactic(auto)]
 
 mod canonical;
+mod composition;
 mod equal;
 mod error;
 mod instances;
+mod laws;
 mod order;
+mod renaming;
 mod size;
 mod subst;
 mod term;
 
 pub use canonical::{canon, sort_arguments};
+pub use composition::compose;
 pub use equal::same;
 pub use error::{NoMemory, TermFail};
-pub use instances::instance;
+pub use instances::{MAX_SYMBOLS, apply, instance, symbols_under};
+pub use laws::{canonical_laws, equality_laws, ground_laws, order_laws};
 pub use order::cmp;
+pub use renaming::rename;
 pub use size::symbols;
 pub use subst::{Binding, Subst, Substs};
 pub use term::{Op, Term, TermPair, TermPairs, Terms, Var, copy};
+
+#[cfg(test)]
+mod tests;

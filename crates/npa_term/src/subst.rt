@@ -1,6 +1,6 @@
 ghost use Rattle.std.specs.Prelude.{◌≡◌, [], ◌∷◌, ◌++◌, OnOk, OnErr};
 ghost use Rattle.std.specs.Option.{option_copied};
-ghost use Rattle.npa_term.specs.Bound.{value_of};
+ghost use Rattle.npa_term.specs.Bound.{value_of, BindsOnce};
 
 use crate::error::NoMemory;
 use crate::term::{Term, Var};
@@ -75,8 +75,17 @@ impl Subst {
 
     /// The bindings, in the order in which they were made.
     pub fn as_slice(&self) -> &[Binding]
-        ensures { result.now ≡ self.now }
+        ensures bindings { result.now ≡ self.now }
+        ensures once { BindsOnce self.now }
     {
         self.bindings.as_slice()
+    }
+
+    // The substitution with these bindings.
+    pub(crate) fn from_bindings(bindings: Vec<Binding>) -> Subst
+        requires { BindsOnce bindings.items }
+        ensures { result ≡ bindings.items }
+    {
+        Subst { bindings }
     }
 }

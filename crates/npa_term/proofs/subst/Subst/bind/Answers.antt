@@ -1,4 +1,4 @@
-use Rattle.std.proofs.Common.{◌≡◌, None, ap, subst, sym}
+use Rattle.std.proofs.Common.{◌≡◌, None, subst, sym}
 use Rattle.npa_term.specs.Bound.{BindsOnce, value_of}
 use Rattle.npa_term.proofs.Bindings.{binds_once-more}
 use Rattle.npa_term.proofs.subst.Subst.bind.Goals as goal

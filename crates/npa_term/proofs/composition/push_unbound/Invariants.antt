@@ -1,0 +1,7 @@
+use Rattle.std.proofs.Common.{◌≡◌, map, ◌++◌, take}
+use Rattle.npa_term.specs.Canonical.{canonical}
+use Rattle.npa_term.specs.Composition.{unbound}
+use Rattle.npa_term.proofs.composition.push_unbound.Given as goal
+
+abbrev pub invariant-loop-v : goal.invariant-loop-v
+invariant-loop-v l = l.made.items ≡ l.initial.made.items ++ map (λ b. (b.0, canonical b.1)) (unbound l.first (take l.v-index l.next))

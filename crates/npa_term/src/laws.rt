@@ -1,0 +1,50 @@
+//! Laws of the notions that the contracts speak of. Each function does nothing: its clauses are
+//! the laws, for the proofs of the crates above.
+
+ghost use Rattle.std.specs.Prelude.{◌≡◌, ◌↔◌, ℕ, List};
+ghost use Rattle.std.specs.Cmp.{IsTotalOrder};
+ghost use Rattle.std.specs.declared.cmp.Ordering.TheVariants.{Equal};
+ghost use Rattle.npa_term.specs.declared.term.Op.{Op};
+ghost use Rattle.npa_term.specs.declared.term.Term.{Term, App};
+ghost use Rattle.npa_term.specs.declared.term.Var.{Var as Variable};
+ghost use Rattle.npa_term.specs.Agreeing.{Agrees};
+ghost use Rattle.npa_term.specs.Bound.{applied};
+ghost use Rattle.npa_term.specs.Canonical.{canonical};
+ghost use Rattle.npa_term.specs.Order.{term_cmp};
+ghost use Rattle.npa_term.specs.Same.{Same, SameAll};
+ghost use Rattle.npa_term.specs.Symbols.{symbol_count};
+ghost use Rattle.npa_term.specs.Variables.{IsGround};
+
+/// The order of terms is total, and where operators agree with one declaration it tells any two
+/// different terms apart.
+pub fn order_laws()
+    ensures total { IsTotalOrder term_cmp }
+    ensures tied { (decl : ℕ → Op) (t u : Term) → Agrees decl t → Agrees decl u → term_cmp t u ≡ Equal → t ≡ u }
+{}
+
+/// Equality modulo commutativity is an equivalence and a congruence, also under substitutions,
+/// and equal terms have as many symbols.
+pub fn equality_laws()
+    ensures reflexive { (t : Term) → Same t t }
+    ensures symmetric { (t u : Term) → Same t u → Same u t }
+    ensures transitive { (s t u : Term) → Same s t → Same t u → Same s u }
+    ensures congruent { (op : Op) (ts us : List Term) → SameAll ts us → Same (App op ts) (App op us) }
+    ensures instances { (s : List (Variable × Term)) (t u : Term) → Same t u → Same (applied s t) (applied s u) }
+    ensures sizes { (t u : Term) → Same t u → symbol_count t ≡ symbol_count u }
+{}
+
+/// A canonical form is canonical and has as many symbols as the term. Where operators agree with
+/// one declaration, two terms have one canonical form exactly where they are equal modulo
+/// commutativity.
+pub fn canonical_laws()
+    ensures settled { (t : Term) → canonical (canonical t) ≡ canonical t }
+    ensures sizes { (t : Term) → symbol_count (canonical t) ≡ symbol_count t }
+    ensures forms { (decl : ℕ → Op) (t u : Term) → Agrees decl t → Agrees decl u → (canonical t ≡ canonical u ↔ Same t u) }
+    ensures agreeing { (decl : ℕ → Op) (t : Term) → Agrees decl t → Agrees decl (canonical t) }
+{}
+
+/// A ground term is its own instance, and its canonical form is ground.
+pub fn ground_laws()
+    ensures fixed { (s : List (Variable × Term)) (t : Term) → IsGround t → applied s t ≡ t }
+    ensures canonical { (t : Term) → IsGround t → IsGround (canonical t) }
+{}
