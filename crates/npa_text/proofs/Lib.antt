@@ -4,3 +4,4 @@ pub mod Pieces
 pub mod Widths
 pub mod Steps
 pub mod Found
+pub mod Later

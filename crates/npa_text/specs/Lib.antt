@@ -7,3 +7,5 @@ pub mod Faults
 pub mod Texts
 pub mod Counts
 pub mod Entries
+pub mod MemReads
+pub mod MemPuts

@@ -13,7 +13,7 @@ mod scan;
 mod token;
 
 pub use fault::{NoMemory, TextFault};
-pub use memory::{Marks, MemEntries, MemEntry};
+pub use memory::{Marks, MemEntries, MemEntry, MemFiles, MemSink};
 pub use name::{Name, Names, Word, Words};
 pub use outside::{Files, PutFail, ReadFail, Sink};
 pub use place::{Place, end_place};
