@@ -9,3 +9,5 @@ pub mod Counts
 pub mod Entries
 pub mod MemReads
 pub mod MemPuts
+pub mod Terminals
+pub mod ReservedRows

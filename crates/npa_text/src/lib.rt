@@ -12,7 +12,9 @@ mod outside;
 mod place;
 mod real;
 mod scan;
+pub mod terminals;
 mod token;
+mod words;
 
 pub use fault::{NoMemory, TextFault};
 pub use memory::{Marks, MemEntries, MemEntry, MemFiles, MemSink};
@@ -23,3 +25,4 @@ pub use place::{Place, end_place};
 pub use real::{RealFiles, RealOut};
 pub use scan::{lex, tokens};
 pub use token::{Kind, Lexed, MOST_BYTES, Raw, Raws, Token, Tokens, number_of, token_text};
+pub use words::{terminal_kind, word_kind};
