@@ -5,3 +5,6 @@ pub mod Widths
 pub mod Steps
 pub mod Found
 pub mod Later
+pub mod Decimals
+pub mod Spellings
+pub mod Lexings
