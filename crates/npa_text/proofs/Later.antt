@@ -1,6 +1,6 @@
 -- What a read of texts in memory leaves as it was, and which counts it raises.
 use Rattle.std.proofs.Common.{◌≡◌, ℕ, suc, zero, ◌+◌, ◌-◌, ◌<◌, ◌≤◌, Bool, true, false, cond, Option, Some, None, Result, Ok, Err, List, [], ◌∷◌, length, refl, ap, ◌∙◌, arith, sym, subst, inl, inr}
-use Rattle.std.specs.Prelude.{nat_lt, ◌⊎◌}
+use Rattle.std.specs.Prelude.{nat_lt, ◌⊎◌, IsSome}
 use Rattle.std.specs.Result.{IsErrOf}
 use Rattle.std.specs.Str.{bytes_eq}
 use Rattle.std.proofs.lemmas.Bool.Decides.{nat_tests}
@@ -189,3 +189,40 @@ long_rises s t name r into e h f =
     let called : MemFiles = record s { calls = one_more s.calls } in
     subst (λ (u : MemFiles). Rose (longs_in (entry_of s.files name)) (longs_in (entry_of u.files name))) (sym e)
     (counted_long (entry_of s.files name) (is_marked s.failing (one_more s.calls)) called name refl (read_long r into (answer_of s name) h f))
+
+-- a read that isn't marked leaves the faults of every name with an entry
+FaultsSame : Option MemEntry → Option MemEntry → Type 0
+FaultsSame (Some e) (Some d) = d.faults ≡ e.faults
+FaultsSame (Some e) None = ⊥
+FaultsSame None o = Unit {0}
+
+long_same : (es : List MemEntry) (name n : List ℕ) → FaultsSame (entry_of es n) (entry_of (changed with_long es name) n)
+unfolding FaultsSame
+long_same [] name n = tt
+long_same (e ∷ es) name n =
+    elim (bytes_eq e.name name) as (λ v. FaultsSame (cond (bytes_eq e.name n) (Some e) (entry_of es n)) (entry_of (cond v (with_long e ∷ es) (e ∷ changed with_long es name)) n)) [
+      | true ↦ elim (bytes_eq e.name n) as (λ v. FaultsSame (cond v (Some e) (entry_of es n)) (cond v (Some (with_long e)) (entry_of es n))) [
+        | true ↦ refl
+        | false ↦ faults_same (entry_of es n)
+      ]
+      | false ↦ elim (bytes_eq e.name n) as (λ v. FaultsSame (cond v (Some e) (entry_of es n)) (cond v (Some e) (entry_of (changed with_long es name) n))) [
+        | true ↦ refl
+        | false ↦ long_same es name n
+      ]
+    ]
+  where
+    faults_same : (o : Option MemEntry) → FaultsSame o o
+    faults_same (Some e) = refl
+    faults_same None = tt
+
+faults_of_same : (o p : Option MemEntry) (x : ℕ) → FaultsSame o p → IsSome o → faults_in p x ≡ faults_in o x
+unfolding FaultsSame
+faults_of_same (Some e) (Some d) x h i = h
+faults_of_same (Some e) None x h i = absurd h
+faults_of_same None p x h i = absurd (cc)
+
+pub long_keeps_faults : (es fs : List MemEntry) (name n : List ℕ) (x : ℕ) → fs ≡ changed with_long es name → IsSome (entry_of es n)
+    → faults_in (entry_of fs n) x ≡ faults_in (entry_of es n) x
+long_keeps_faults es fs name n x e i =
+    faults_of_same (entry_of es n) (entry_of fs n) x
+    (subst (λ (us : List MemEntry). FaultsSame (entry_of es n) (entry_of us n)) (sym e) (long_same es name n)) i

@@ -1,4 +1,4 @@
-ghost use Rattle.std.specs.Prelude.{◌≡◌, ◌≤◌, ◌<◌, ◌↔◌, ℕ, List, [], ◌∷◌, ◌++◌, Option, length, is_ok, OnOk, OnErr, IfSome, IsTrue, Contains, slice_get};
+ghost use Rattle.std.specs.Prelude.{◌≡◌, ◌≤◌, ◌<◌, ◌↔◌, ℕ, List, [], ◌∷◌, ◌++◌, Option, length, is_ok, OnOk, OnErr, IfSome, IsSome, IsTrue, Contains, slice_get};
 ghost use Rattle.std.specs.Option.{option_copied};
 ghost use Rattle.std.specs.Result.{IsErrOf};
 ghost use Rattle.npa_text.specs.Counts.{Rose, appended, AppendsFront, one_more};
@@ -161,10 +161,15 @@ fn is_marked(failing: &Marks, call: u64) -> bool
 
 impl MemFiles {
     /// Reads a text as `Files::read` does: this contract says which answer comes, and what is counted.
+    #[tactic(auto, using(crate::proofs::Later::long_keeps_faults))]
     pub fn read_entry(&mut self, name: &str, into: &mut Vec<u8>) -> Result<(), ReadFail>
         requires { into.old.items ≡ [] }
         ensures counts { self.new ≡ after_read self.old name.now }
         ensures answer { IsRead result into.new.items (answer_of self.old name.now) }
+
+        // With no call marked, no name with a text has a fault more.
+        ensures unmarked { self.old.failing ≡ [] → (n : List ℕ) → IsSome (entry_of self.old.files n)
+            → faults_in (entry_of self.new.files n) self.new.strange ≡ faults_in (entry_of self.old.files n) self.old.strange }
     {
         self.calls = one_more(self.calls);
         let marked = is_marked(&self.failing, self.calls);
@@ -216,6 +221,7 @@ impl MemSink {
     pub fn put_piece(&mut self, bytes: &[u8]) -> Result<(), PutFail>
         ensures state { self.new ≡ after_put self.old bytes.now (is_ok result) }
         ensures fault { IsErrOf result PutFail.Fault ↔ IsTrue (is_marked self.old.failing (one_more self.old.calls)) }
+        ensures unmarked { self.old.failing ≡ [] → self.new.faults ≡ self.old.faults }
     {
         self.calls = one_more(self.calls);
         if is_marked(&self.failing, self.calls) {
