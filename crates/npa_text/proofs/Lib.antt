@@ -4,3 +4,7 @@ pub mod Pieces
 pub mod Widths
 pub mod Steps
 pub mod Found
+pub mod Later
+pub mod Decimals
+pub mod Spellings
+pub mod Lexings

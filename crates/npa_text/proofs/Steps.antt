@@ -2,7 +2,7 @@
 use Rattle.std.proofs.Common.{◌≡◌, ℕ, suc, zero, ◌+◌, ◌-◌, ◌<◌, ◌≤◌, Bool, true, false, cond, Option, Some, None, List, [], ◌∷◌, ◌++◌, length, get_or, take, drop, refl, ap, ◌∙◌, arith, sym, subst}
 use Rattle.std.specs.Prelude.{◌==◌, not}
 use Rattle.std.proofs.lemmas.Bool.Decides.{nat_tests}
-use Rattle.std.proofs.lemmas.List.{drop_more, drop-drop, take_rest, append_assoc, append-nil, length-drop}
+use Rattle.std.proofs.lemmas.List.{drop_more, drop_all, drop-drop, take_rest, append_assoc, append-nil, length-drop}
 use Rattle.npa_text.specs.declared.token.Kind.{Kind}
 use Rattle.npa_text.specs.declared.token.Token.{Token}
 use Rattle.npa_text.specs.declared.token.Lexed.{Lexed}
@@ -75,7 +75,7 @@ gap_of_front xs at d h = ap gap_at (front_at xs at d h)
 token_of_front : (xs : List ℕ) (at d : ℕ) → at < length xs → token_at (take (length xs - at) (drop at xs)) ≡ token_of (get_or xs at d) (drop (at + 1) xs)
 token_of_front xs at d h = ap token_at (front_at xs at d h)
 
-run_within : (p : ℕ → Bool) (bs : List ℕ) → run p bs ≤ length bs
+pub run_within : (p : ℕ → Bool) (bs : List ℕ) → run p bs ≤ length bs
 run_within p [] = omega arith
 run_within p (b ∷ bs) =
     elim (p b) as (λ v. cond v (run p bs + 1) 0 ≤ suc (length bs)) [
@@ -182,3 +182,12 @@ scanned_fault xs ts c h g e s =
 pub scanned_same : {xs : List ℕ} {ts us : List Token} {c d : Cursor} → us ≡ ts → d ≡ c → Scanned xs ts c → Scanned xs us d
 scanned_same {xs} {ts} {us} {c} {d} e f s =
     subst (λ x. Scanned xs us x) (sym f) (subst (λ vs. Scanned xs vs c) (sym e) s)
+
+pub scanned_end : (xs : List ℕ) (ts : List Token) (c : Cursor) → length xs ≤ c.at → Scanned xs ts c
+    → record { tokens = ts; fault = None } ≡ scan xs 0 0 first_place
+scanned_end xs ts c h s =
+    let step : scan (drop c.at xs) 0 c.at c.place ≡ record { tokens = []; fault = None } =
+    ap (λ ys. scan ys 0 c.at c.place) (drop_all c.at xs h) in
+    let joined : record { tokens = ts; fault = None } ≡ behind ts (record { tokens = []; fault = None }) =
+    ap (λ (us : List Token). record { tokens = us; fault = None }) (sym (append-nil ts)) in
+    joined ∙ ap (behind ts) (sym step) ∙ s.found

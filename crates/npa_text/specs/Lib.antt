@@ -7,3 +7,7 @@ pub mod Faults
 pub mod Texts
 pub mod Counts
 pub mod Entries
+pub mod MemReads
+pub mod MemPuts
+pub mod Terminals
+pub mod ReservedRows

@@ -1,12 +1,15 @@
-ghost use Rattle.std.specs.Prelude.{◌≡◌, ◌≤◌, ◌<◌, ◌↔◌, ℕ, List, [], ◌∷◌, ◌++◌, Option, Some, length, OnOk, OnErr, IfSome, IsTrue, Contains, slice_get};
+ghost use Rattle.std.specs.Prelude.{◌≡◌, ◌≤◌, ◌<◌, ◌↔◌, ℕ, List, [], ◌∷◌, ◌++◌, Option, length, is_ok, OnOk, OnErr, IfSome, IsSome, IsTrue, Contains, slice_get};
 ghost use Rattle.std.specs.Option.{option_copied};
 ghost use Rattle.std.specs.Result.{IsErrOf};
 ghost use Rattle.npa_text.specs.Counts.{Rose, appended, AppendsFront, one_more};
+ghost use Rattle.npa_text.specs.MemReads.{is_marked, after_read, answer_of, IsRead};
+ghost use Rattle.npa_text.specs.MemPuts.{after_put};
 ghost use Rattle.npa_text.specs.Entries.{entry_of, text_in, faults_in, longs_in, with_fault, with_long, changed, place_from};
 
 use crate::fault::NoMemory;
 use crate::name::Name;
-use crate::outside::{Files, ReadFail};
+use crate::outside::{Files, PutFail, ReadFail, Sink};
+use crate::token::MOST_BYTES;
 use npa_list::List;
 use std::alloc::Global;
 use std::marker::Model;
@@ -135,4 +138,109 @@ fn one_more(count: u64) -> u64
     ensures { result ≡ one_more count }
 {
     count.saturating_add(1)
+}
+
+/// Texts in memory.
+///
+/// The numbers in `failing` are those of the calls that fail, from 1; `calls` counts the calls, up to
+/// its last value. A name without a text is a fault, which `strange` counts.
+#[derive(Debug, Drop)]
+pub struct MemFiles {
+    pub files: MemEntries,
+    pub failing: Marks,
+    pub calls: u64,
+    pub strange: u64,
+}
+
+// Whether the call with this number is to fail.
+fn is_marked(failing: &Marks, call: u64) -> bool
+    ensures { result ≡ is_marked failing.now call }
+{
+    failing.as_slice().contains(&call)
+}
+
+impl MemFiles {
+    /// Reads a text as `Files::read` does: this contract says which answer comes, and what is counted.
+    #[tactic(auto, using(crate::proofs::Later::long_keeps_faults))]
+    pub fn read_entry(&mut self, name: &str, into: &mut Vec<u8>) -> Result<(), ReadFail>
+        requires { into.old.items ≡ [] }
+        ensures counts { self.new ≡ after_read self.old name.now }
+        ensures answer { IsRead result into.new.items (answer_of self.old name.now) }
+
+        // With no call marked, no name with a text has a fault more.
+        ensures unmarked { self.old.failing ≡ [] → (n : List ℕ) → IsSome (entry_of self.old.files n)
+            → faults_in (entry_of self.new.files n) self.new.strange ≡ faults_in (entry_of self.old.files n) self.old.strange }
+    {
+        self.calls = one_more(self.calls);
+        let marked = is_marked(&self.failing, self.calls);
+        let Some(entry) = self.files.find(name.as_bytes()) else {
+            self.strange = one_more(self.strange);
+            return Err(ReadFail::Fault);
+        };
+        if marked {
+            self.files.add_fault(name.as_bytes());
+            return Err(ReadFail::Fault);
+        }
+        if entry.bytes.len() > MOST_BYTES {
+            self.files.add_long(name.as_bytes());
+            return Err(ReadFail::TooLong);
+        }
+        into.extend_from_slice(entry.bytes.as_slice())?;
+        Ok(())
+    }
+}
+
+impl Files for MemFiles {
+    ghost use Rattle.npa_text.specs.Entries.{entry_of, text_in, faults_in, longs_in};
+
+    ghost holds = { λ s n. text_in (entry_of s.files n) };
+
+    ghost faults = { λ s n. faults_in (entry_of s.files n) s.strange };
+
+    ghost longs = { λ s n. longs_in (entry_of s.files n) };
+
+    fn read(&mut self, name: &str, into: &mut Vec<u8>) -> Result<(), ReadFail> {
+        self.read_entry(name, into)
+    }
+}
+
+/// What is written to memory.
+///
+/// The numbers in `failing` are those of the calls that fail, from 1, and write nothing; `calls`
+/// counts the calls, up to its last value, and `faults` those that failed.
+#[derive(Debug, Drop)]
+pub struct MemSink {
+    pub written: Name,
+    pub failing: Marks,
+    pub calls: u64,
+    pub faults: u64,
+}
+
+impl MemSink {
+    /// Writes a piece as `Sink::put` does: this contract says which answer comes, and what is counted.
+    pub fn put_piece(&mut self, bytes: &[u8]) -> Result<(), PutFail>
+        ensures state { self.new ≡ after_put self.old bytes.now (is_ok result) }
+        ensures fault { IsErrOf result PutFail.Fault ↔ IsTrue (is_marked self.old.failing (one_more self.old.calls)) }
+        ensures unmarked { self.old.failing ≡ [] → self.new.faults ≡ self.old.faults }
+    {
+        self.calls = one_more(self.calls);
+        if is_marked(&self.failing, self.calls) {
+            self.faults = one_more(self.faults);
+            return Err(PutFail::Fault);
+        }
+        self.written.extend_from_slice(bytes)?;
+        Ok(())
+    }
+}
+
+impl Sink for MemSink {
+    ghost use Rattle.std.specs.Prelude.{Some};
+
+    ghost written = { λ s. Some s.written };
+
+    ghost faults = { λ s. s.faults };
+
+    fn put(&mut self, bytes: &[u8]) -> Result<(), PutFail> {
+        self.put_piece(bytes)
+    }
 }

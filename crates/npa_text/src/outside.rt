@@ -2,6 +2,7 @@ ghost use Rattle.std.specs.Prelude.{◌≡◌, ◌≤◌, ◌<◌, ℕ, List, []
 ghost use Rattle.std.specs.Result.{IsErrOf};
 ghost use Rattle.npa_text.specs.Counts.{Rose, appended, AppendsFront};
 
+use std::alloc::AllocError;
 use thiserror::Error;
 
 /// Why a text wasn't read.
@@ -18,6 +19,16 @@ pub enum ReadFail {
     NoMemory,
 }
 
+impl From<AllocError> for ReadFail {
+    ghost use Rattle.npa_text.specs.declared.outside.ReadFail.TheVariants.{NoMemory};
+
+    ghost from_gives = { λ _ fail. fail ≡ NoMemory };
+
+    fn from(_error: AllocError) -> ReadFail {
+        ReadFail::NoMemory
+    }
+}
+
 /// Why a piece wasn't written.
 #[derive(Clone, Copy, Debug, PartialEq, Eq, Error)]
 pub enum PutFail {
@@ -27,6 +38,16 @@ pub enum PutFail {
     /// Memory was wanting, and nothing was written.
     #[error("out of memory")]
     NoMemory,
+}
+
+impl From<AllocError> for PutFail {
+    ghost use Rattle.npa_text.specs.declared.outside.PutFail.TheVariants.{NoMemory};
+
+    ghost from_gives = { λ _ fail. fail ≡ NoMemory };
+
+    fn from(_error: AllocError) -> PutFail {
+        PutFail::NoMemory
+    }
 }
 
 /// Texts that are read by name.

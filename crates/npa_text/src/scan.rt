@@ -1,7 +1,7 @@
-ghost use Rattle.std.specs.Prelude.{◌≡◌, ◌≤◌, ◌<◌, ◌+◌, length, None, IfOk, IfErr};
-ghost use Rattle.npa_text.specs.Faults.{IsFaultOf};
+ghost use Rattle.std.specs.Prelude.{◌≡◌, ◌≤◌, ◌<◌, ◌+◌, length, List, Option, None, IfOk, IfErr};
+ghost use Rattle.npa_text.specs.Faults.{IsFaultOf, GivesTokens};
 ghost use Rattle.npa_text.specs.Places.{first_place, moved, along};
-ghost use Rattle.npa_text.specs.Scans.{mark_of, numbered, token_at, gap_at, begins_comment, lexed};
+ghost use Rattle.npa_text.specs.Scans.{mark_of, numbered, token_at, gap_at, begins_comment, lexed, Lexes};
 
 use crate::bytes::{begins_with, digit_run, is_blank, is_digit, is_letter, line_run, word_run};
 use crate::fault::{NoMemory, TextFault};
@@ -146,7 +146,9 @@ impl Cursor {
 /// its greatest value is no token, and neither is a `#` or `?` without a number.
 pub fn lex(alloc: Global, bytes: &[u8]) -> Result<Lexed, NoMemory>
     requires { length bytes.now ≤ 1048576 }
-    ensures { IfOk result (λ found. found ≡ lexed bytes.now) }
+    ensures value { IfOk result (λ found. found ≡ lexed bytes.now) }
+    ensures rule { IfOk result (λ found. Lexes 0 first_place bytes.now found.tokens found.fault) }
+    ensures only { (ts : List Token) (fault : Option Place) → Lexes 0 first_place bytes.now ts fault → IfOk result (λ found. found ≡ record { tokens = ts; fault = fault }) }
 {
     let mut tokens = Tokens::new(alloc);
     let mut cursor = Cursor {
@@ -178,7 +180,9 @@ pub fn lex(alloc: Global, bytes: &[u8]) -> Result<Lexed, NoMemory>
 /// byte at which none begins.
 pub fn tokens(alloc: Global, bytes: &[u8]) -> Result<Tokens, TextFault>
     requires { length bytes.now ≤ 1048576 }
-    ensures ok { IfOk result (λ tokens. lexed bytes.now ≡ record { tokens = tokens; fault = None }) }
+    ensures ok { IfOk result (λ tokens. Lexes 0 first_place bytes.now tokens None) }
+    ensures only { (ts : List Token) → Lexes 0 first_place bytes.now ts None → GivesTokens result ts }
+    ensures value { IfOk result (λ tokens. lexed bytes.now ≡ record { tokens = tokens; fault = None }) }
     ensures syntax { IfErr result (λ fault. IsFaultOf fault (lexed bytes.now).fault) }
 {
     let Lexed { tokens, fault } = lex(alloc, bytes)?;
