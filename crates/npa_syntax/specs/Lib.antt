@@ -1,0 +1,6 @@
+pub mod Answers
+pub mod Automata
+pub mod Grammars
+pub mod Languages
+pub mod Openings
+pub mod Tables

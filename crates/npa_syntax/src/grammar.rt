@@ -1,73 +1,20 @@
-/// How often a part of a production occurs in a text.
+ghost use Rattle.std.specs.Prelude.{map, IsTrue};
+ghost use Rattle.npa_syntax.specs.Tables.{plain, decides};
+
+use crate::production::{Part, Production};
+
+/// A grammar whose texts one terminal of look-ahead decides.
+///
+/// The check that a value of this type is made rightly is done by the compiler, on the table.
 #[derive(Debug, Clone, Copy)]
-pub enum Occurrence {
-    /// Exactly once.
-    Once,
-    /// Once, or not at all.
-    Optional,
-    /// Any number of times, not at all included.
-    Repeated,
-}
-
-/// A part of a production: a nonterminal, and how often it occurs.
-#[derive(Debug, Clone, Copy)]
-pub struct Part {
-    pub symbol: u8,
-    pub occurs: Occurrence,
-}
-
-/// A production: a nonterminal may be a terminal of this kind, and then the parts in order.
-#[derive(Debug, Clone, Copy)]
-pub struct Production {
-    /// The nonterminal.
-    pub symbol: u8,
-    /// The kind of terminal with which the production begins.
-    pub kind: u8,
-    /// What follows that terminal.
-    pub parts: &'static [Part],
-}
-
-/// The part that occurs exactly once.
-#[macro_export]
-macro_rules! one {
-    ($symbol:expr) => {
-        $crate::Part {
-            symbol: $symbol,
-            occurs: $crate::Occurrence::Once,
-        }
-    };
-}
-
-/// The part that may be left out.
-#[macro_export]
-macro_rules! optional {
-    ($symbol:expr) => {
-        $crate::Part {
-            symbol: $symbol,
-            occurs: $crate::Occurrence::Optional,
-        }
-    };
-}
-
-/// The part that occurs any number of times.
-#[macro_export]
-macro_rules! repeated {
-    ($symbol:expr) => {
-        $crate::Part {
-            symbol: $symbol,
-            occurs: $crate::Occurrence::Repeated,
-        }
-    };
-}
-
-/// The production of a nonterminal that begins with a kind of terminal; its parts stand in `[]`.
-#[macro_export]
-macro_rules! production {
-    ($symbol:expr, $kind:expr, [$($part:expr),*]) => {
-        $crate::Production {
-            symbol: $symbol,
-            kind: $kind,
-            parts: &[$($part),*],
-        }
-    };
+pub struct Grammar {
+    /// The productions of all nonterminals.
+    pub productions: &'static [Production],
+    /// What a text consists of.
+    pub start: &'static [Part],
+    /// The nonterminal that opens a bracket; brackets nest in one another at most `limit` deep.
+    pub nesting: u8,
+    /// How many brackets may be open at once.
+    pub limit: u32,
+    ghost decided: { IsTrue (decides (map plain productions.now) nesting start.now) },
 }

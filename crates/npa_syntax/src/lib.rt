@@ -4,8 +4,16 @@
 //! known. A text is a list of terminals, its tree a list of nodes.
 #![tactic(auto)]
 
+mod fault;
 mod grammar;
 mod node;
+mod opening;
+mod production;
+mod reader;
+#[cfg(test)]
+mod tests;
 
-pub use grammar::{Occurrence, Part, Production};
+pub use fault::ReadFault;
+pub use grammar::Grammar;
 pub use node::{Node, Terminal};
+pub use production::{Occurrence, Part, Production};

@@ -1,0 +1,5 @@
+pub mod Decides
+pub mod Reading
+pub mod Steps
+pub mod Texts
+pub mod Trees
