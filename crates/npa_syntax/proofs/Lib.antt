@@ -1,4 +1,5 @@
 pub mod Decides
+pub mod Laws
 pub mod Reading
 pub mod Steps
 pub mod Texts

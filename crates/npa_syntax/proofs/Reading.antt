@@ -37,19 +37,21 @@ module _ (rules : Rules) (room : ℕ) (parts : List Part) (ts : List Terminal) (
   pub fault_at : from ≤ at → at ≤ length ts → is_needed (get_or parts next d).occurs ≡ true → CantBegin rules (piece room (get_or parts next d)) (drop at ts)
       → StuckAt rules (map (piece room) parts) ts from at
   fault_at forward within needed cant = record {
-      forward = forward;
-      within = within;
-      stuck = stuck_here rules (map (piece room) parts) (piece room (get_or parts next d)) (map (piece room) (drop (next + 1) parts))
-        (drop from ts) nodes (drop at ts) before_cons needed cant }
+    forward = forward;
+    within = within;
+    stuck = stuck_here rules (map (piece room) parts) (piece room (get_or parts next d)) (map (piece room) (drop (next + 1) parts))
+        (drop from ts) nodes (drop at ts) before_cons needed cant;
+  }
 
   leaving_at : leaving (piece room (get_or parts next d)) (map (piece room) (drop (next + 1) parts))
       ≡ map (piece room) (drop (next + passed_by (get_or parts next d).occurs) parts)
   leaving_at =
       elim ((get_or parts next d).occurs) as (λ o. cond (is_repeated o) (piece room (get_or parts next d) ∷ map (piece room) (drop (next + 1) parts)) (map (piece room) (drop (next + 1) parts))
-        ≡ map (piece room) (drop (next + passed_by o) parts))
-      [ Once ↦ refl
-      | Optional ↦ refl
-      | Repeated ↦ sym cons_parts ∙ ap (λ n. map (piece room) (drop n parts)) (sym (add-zero next)) ]
+      ≡ map (piece room) (drop (next + passed_by o) parts)) [
+        | Once ↦ refl
+        | Optional ↦ refl
+        | Repeated ↦ sym cons_parts ∙ ap (λ n. map (piece room) (drop n parts)) (sym (add-zero next))
+      ]
 
   module _ (o : Opening) (opens : OpensBy rules (piece room (get_or parts next d)) ts at o) where
     before_next : Pending rules (map (piece room) parts) (piece room (get_or parts next d) ∷ map (piece room) (drop (next + 1) parts)) (drop from ts) nodes
@@ -64,18 +66,19 @@ module _ (rules : Rules) (room : ℕ) (parts : List Part) (ts : List Terminal) (
         → Pending rules (map (piece room) parts) (map (piece room) (drop (next + k) parts)) (drop from ts) grown (drop end ts)
     taken_at kids end k grown inner passed is =
         let after = pending_take rules (map (piece room) parts) (piece room (get_or parts next d)) (map (piece room) (drop (next + 1) parts)) (drop from ts) nodes
-          o.head (drop (at + 1) ts) (map (piece o.room) o.parts.now) kids (drop end ts) before_next opens.begins inner.reads in
+        o.head (drop (at + 1) ts) (map (piece o.room) o.parts.now) kids (drop end ts) before_next opens.begins inner.reads in
         subst₂ (λ qs ns. Pending rules (map (piece room) parts) qs (drop from ts) ns (drop end ts))
-          (leaving_at ∙ ap (λ n. map (piece room) (drop (next + n) parts)) (sym passed)) (sym is) after
+        (leaving_at ∙ ap (λ n. map (piece room) (drop (next + n) parts)) (sym passed)) (sym is) after
 
     -- a fault inside a part that begins is the fault
     pub fault_inside : from ≤ at → (place : ℕ) → StuckAt rules (map (piece o.room) o.parts.now) ts (at + 1) place
         → StuckAt rules (map (piece room) parts) ts from place
     fault_inside forward place inner = record {
-        forward = omega (arith, forward, inner.forward);
-        within = inner.within;
-        stuck = stuck_below rules (map (piece room) parts) (piece room (get_or parts next d)) (map (piece room) (drop (next + 1) parts)) (drop from ts) nodes
-          o.head (drop (at + 1) ts) (map (piece o.room) o.parts.now) (drop place ts) before_next opens.begins inner.stuck }
+      forward = omega (arith, forward, inner.forward);
+      within = inner.within;
+      stuck = stuck_below rules (map (piece room) parts) (piece room (get_or parts next d)) (map (piece room) (drop (next + 1) parts)) (drop from ts) nodes
+          o.head (drop (at + 1) ts) (map (piece o.room) o.parts.now) (drop place ts) before_next opens.begins inner.stuck;
+    }
 
     pub fault_passed : from ≤ at → (fault : ReadFault) → ReadsOrStops rules (map (piece o.room) o.parts.now) ts (at + 1) (Err fault)
         → ReadsOrStops rules (map (piece room) parts) ts from (Err fault)
@@ -88,10 +91,11 @@ pub all_read : (rules : Rules) (room : ℕ) (parts : List Part) (ts : List Termi
     → Pending rules (map (piece room) parts) (map (piece room) (drop next parts)) (drop from ts) nodes (drop at ts)
     → ReadsBetween rules (map (piece room) parts) ts from nodes at
 all_read rules room parts ts from nodes next at forward within past before = record {
-    forward = forward;
-    within = within;
-    reads = pending_last rules (map (piece room) parts) (drop from ts) nodes (drop at ts)
-      (subst (λ qs. Pending rules (map (piece room) parts) qs (drop from ts) nodes (drop at ts)) (ap (λ xs. map (piece room) xs) (drop_of_length-le parts past)) before) }
+  forward = forward;
+  within = within;
+  reads = pending_last rules (map (piece room) parts) (drop from ts) nodes (drop at ts)
+      (subst (λ qs. Pending rules (map (piece room) parts) qs (drop from ts) nodes (drop at ts)) (ap (λ xs. map (piece room) xs) (drop_of_length-le parts past)) before);
+}
 
 -- the parts that are done with are not more than there are
 pub passed_along : (o : Occurrence) (next n k : ℕ) → next < n → k ≡ passed_by o → next + k ≤ n

@@ -37,10 +37,11 @@ pending_first rules ps ts = record { taken = []; all = refl; spells = λ us ms d
 pub pending_skip : (rules : Rules) (ps : List Piece) (p : Piece) (rest : List Piece) (ts : List Terminal) (nodes : List Node) (left : List Terminal)
     → Pending rules ps (p ∷ rest) ts nodes left → is_needed p.occurs ≡ false → CantBegin rules p left → Pending rules ps rest ts nodes left
 pending_skip rules ps p rest ts nodes left before needed cant = record {
-    taken = before.taken;
-    all = before.all;
-    spells = λ us ms d. before.spells us ms (without p rest us ms needed d);
-    onward = λ more f st. before.onward more f st ∙ fault_skipped rules p (rest ++ st) left more needed cant f }
+  taken = before.taken;
+  all = before.all;
+  spells = λ us ms d. before.spells us ms (without p rest us ms needed d);
+  onward = λ more f st. before.onward more f st ∙ fault_skipped rules p (rest ++ st) left more needed cant f;
+}
 
 -- what comes before and a terminal with what it begins
 pub fault_through : (rules : Rules) (ps : List Piece) (p : Piece) (rest : List Piece) (ts : List Terminal) (nodes : List Node) (t : Terminal) (l : List Terminal)
@@ -60,34 +61,38 @@ pub pending_take : (rules : Rules) (ps : List Piece) (p : Piece) (rest : List Pi
     → Pending rules ps (p ∷ rest) ts nodes (t ∷ l) → rules p.nonterminal t.kind ≡ Some body → Reads rules body l kids mid
     → Pending rules ps (leaving p rest) ts (nodes ++ tree p.nonterminal t kids ∷ []) mid
 pending_take rules ps p rest ts nodes t l body kids mid before begins inner = record {
-    taken = before.taken ++ t ∷ inner.taken;
-    all = all_through before.taken t l inner.taken mid ts before.all inner.all;
-    spells = λ us ms d.
+  taken = before.taken ++ t ∷ inner.taken;
+  all = all_through before.taken t l inner.taken mid ts before.all inner.all;
+  spells = λ us ms d.
       subst₂ (λ xs ns. Spells rules ps xs ns) (sym (append_assoc before.taken (t ∷ inner.taken) us)) (sym (append_assoc nodes (tree p.nonterminal t kids ∷ []) ms))
-        (before.spells (t ∷ (inner.taken ++ us)) (tree p.nonterminal t kids ∷ ms) (taking p rest t body inner.taken us kids ms begins inner.spells d));
-    onward = λ more f st. fault_through rules ps p rest ts nodes t l before body begins inner.taken more st
-      ∙ inner.onward more f (leaving p (rest ++ st)) ∙ ap (λ qs. fault rules more qs) (leaving_append p rest st) }
+      (before.spells (t ∷ (inner.taken ++ us)) (tree p.nonterminal t kids ∷ ms) (taking p rest t body inner.taken us kids ms begins inner.spells d));
+  onward = λ more f st. fault_through rules ps p rest ts nodes t l before body begins inner.taken more st
+      ∙ inner.onward more f (leaving p (rest ++ st)) ∙ ap (λ qs. fault rules more qs) (leaving_append p rest st);
+}
 
 pub stuck_here : (rules : Rules) (ps : List Piece) (p : Piece) (rest : List Piece) (ts : List Terminal) (nodes : List Node) (left : List Terminal)
     → Pending rules ps (p ∷ rest) ts nodes left → is_needed p.occurs ≡ true → CantBegin rules p left → Stuck rules ps ts left
 stuck_here rules ps p rest ts nodes left before needed cant = record {
-    front = before.taken;
-    all = before.all;
-    stuck = λ more f st. before.onward more f st ∙ fault_stuck rules p (rest ++ st) left more needed cant f }
+  front = before.taken;
+  all = before.all;
+  stuck = λ more f st. before.onward more f st ∙ fault_stuck rules p (rest ++ st) left more needed cant f;
+}
 
 pub stuck_below : (rules : Rules) (ps : List Piece) (p : Piece) (rest : List Piece) (ts : List Terminal) (nodes : List Node) (t : Terminal) (l : List Terminal)
     (body : List Piece) (left : List Terminal)
     → Pending rules ps (p ∷ rest) ts nodes (t ∷ l) → rules p.nonterminal t.kind ≡ Some body → Stuck rules body l left → Stuck rules ps ts left
 stuck_below rules ps p rest ts nodes t l body left before begins inner = record {
-    front = before.taken ++ t ∷ inner.front;
-    all = all_through before.taken t l inner.front left ts before.all inner.all;
-    stuck = λ more f st. fault_through rules ps p rest ts nodes t l before body begins inner.front more st
-      ∙ inner.stuck more f (leaving p (rest ++ st)) }
+  front = before.taken ++ t ∷ inner.front;
+  all = all_through before.taken t l inner.front left ts before.all inner.all;
+  stuck = λ more f st. fault_through rules ps p rest ts nodes t l before body begins inner.front more st
+      ∙ inner.stuck more f (leaving p (rest ++ st));
+}
 
 pub pending_last : (rules : Rules) (ps : List Piece) (ts : List Terminal) (nodes : List Node) (left : List Terminal)
     → Pending rules ps [] ts nodes left → Reads rules ps ts nodes left
 pending_last rules ps ts nodes left before = record {
-    taken = before.taken;
-    all = before.all;
-    spells = subst₂ (λ xs ns. Spells rules ps xs ns) (append-nil before.taken) (append-nil nodes) (before.spells [] [] nothing);
-    onward = before.onward }
+  taken = before.taken;
+  all = before.all;
+  spells = subst₂ (λ xs ns. Spells rules ps xs ns) (append-nil before.taken) (append-nil nodes) (before.spells [] [] nothing);
+  onward = before.onward;
+}

@@ -38,11 +38,13 @@ next_weaker rules end inner qs weaker k (p ∷ ps) (inr n) = inr (n.0, next_weak
 apart_append : (rules : Rules) (follow : Nonterminal → ℕ → Type 0) (end inner : ℕ → Type 0) (ps qs : List Piece)
     → Apart rules follow inner ps → ((k : ℕ) → Next rules end k qs → inner k) → Apart rules follow end qs → Apart rules follow end (ps ++ qs)
 apart_append rules follow end inner [] qs a weaker b = b
-apart_append rules follow end inner (p ∷ ps) qs a weaker b =
-    (record {
-      follows = λ k n. a.0.follows k (next_weaker rules end inner qs weaker k (leaving p ps) (subst (λ xs. Next rules end k xs) (leaving_append p ps qs) n));
-      apart = λ e k n. a.0.apart e k (next_weaker rules end inner qs weaker k ps n) },
-    apart_append rules follow end inner ps qs a.1 weaker b)
+apart_append rules follow end inner (p ∷ ps) qs a weaker b = (
+  record {
+    follows = λ k n. a.0.follows k (next_weaker rules end inner qs weaker k (leaving p ps) (subst (λ xs. Next rules end k xs) (leaving_append p ps qs) n));
+    apart = λ e k n. a.0.apart e k (next_weaker rules end inner qs weaker k ps n);
+  },
+  apart_append rules follow end inner ps qs a.1 weaker b,
+)
 
 pub apart_leaving : (rules : Rules) (follow : Nonterminal → ℕ → Type 0) (end : ℕ → Type 0) (p : Piece) (ps : List Piece)
     → Apart rules follow end (p ∷ ps) → Apart rules follow end (leaving p ps)
@@ -58,7 +60,7 @@ pub apart_taken : (rules : Rules) (follow : Nonterminal → ℕ → Type 0) (end
     → Apart rules follow end (p ∷ ps) → Apart rules follow end (body ++ leaving p ps)
 apart_taken rules follow end closed p ps k body begins a =
     apart_append rules follow end (follow p.nonterminal) body (leaving p ps)
-      (closed p.nonterminal k body begins) a.0.follows (apart_leaving rules follow end p ps a)
+    (closed p.nonterminal k body begins) a.0.follows (apart_leaving rules follow end p ps a)
 
 pub next_begins : {rules : Rules} (end : ℕ → Type 0) {ps : List Piece} {ts : List Terminal} {ns : List Node} → Spells rules ps ts ns
     → (t : Terminal) (us : List Terminal) → ts ≡ t ∷ us → Next rules end t.kind ps
@@ -75,8 +77,8 @@ join nothing qs vs ms e = e
 join (without p ps ts ns needed d) qs vs ms e = without p (ps ++ qs) (ts ++ vs) (ns ++ ms) needed (join d qs vs ms e)
 join {rules = rules} (taking p ps t body ts us kids ns begins d d') qs vs ms e =
     subst (λ xs. Spells rules (p ∷ (ps ++ qs)) xs (tree p.nonterminal t kids ∷ (ns ++ ms))) (sym (append_assoc (t ∷ ts) us vs))
-      (taking p (ps ++ qs) t body ts (us ++ vs) kids (ns ++ ms) begins d
-        (subst (λ xs. Spells rules xs (us ++ vs) (ns ++ ms)) (sym (leaving_append p ps qs)) (join d' qs vs ms e)))
+    (taking p (ps ++ qs) t body ts (us ++ vs) kids (ns ++ ms) begins d
+    (subst (λ xs. Spells rules xs (us ++ vs) (ns ++ ms)) (sym (leaving_append p ps qs)) (join d' qs vs ms e)))
 
 pub record Split (rules : Rules) (ps qs : List Piece) (ts : List Terminal) : Type 0 where
   pub left : List Terminal
@@ -90,23 +92,37 @@ pub record Split (rules : Rules) (ps qs : List Piece) (ts : List Terminal) : Typ
 split_taking : (rules : Rules) (p : Piece) (ps qs : List Piece) (t : Terminal) (body : List Piece) (ts us : List Terminal) (kids : List Node)
     → rules p.nonterminal t.kind ≡ Some body → Spells rules body ts kids → Split rules (leaving p ps) qs us → Split rules (p ∷ ps) qs (t ∷ ts ++ us)
 split_taking rules p ps qs t body ts us kids begins d s = record {
-    left = t ∷ ts ++ s.left;
-    right = s.right;
-    left_trees = tree p.nonterminal t kids ∷ s.left_trees;
-    right_trees = s.right_trees;
-    all = ap (λ xs. t ∷ ts ++ xs) s.all ∙ sym (append_assoc (t ∷ ts) s.left s.right);
-    first = taking p ps t body ts s.left kids s.left_trees begins d s.first;
-    second = s.second }
+  left = t ∷ ts ++ s.left;
+  right = s.right;
+  left_trees = tree p.nonterminal t kids ∷ s.left_trees;
+  right_trees = s.right_trees;
+  all = ap (λ xs. t ∷ ts ++ xs) s.all ∙ sym (append_assoc (t ∷ ts) s.left s.right);
+  first = taking p ps t body ts s.left kids s.left_trees begins d s.first;
+  second = s.second;
+}
 
 split_without : (rules : Rules) (p : Piece) (ps qs : List Piece) (ts : List Terminal) → is_needed p.occurs ≡ false → Split rules ps qs ts → Split rules (p ∷ ps) qs ts
 split_without rules p ps qs ts needed s = record {
-    left = s.left; right = s.right; left_trees = s.left_trees; right_trees = s.right_trees; all = s.all;
-    first = without p ps s.left s.left_trees needed s.first; second = s.second }
+  left = s.left;
+  right = s.right;
+  left_trees = s.left_trees;
+  right_trees = s.right_trees;
+  all = s.all;
+  first = without p ps s.left s.left_trees needed s.first;
+  second = s.second;
+}
 
 pub split : {rules : Rules} {xs : List Piece} {ts : List Terminal} {ns : List Node} → Spells rules xs ts ns
     → (ps qs : List Piece) → xs ≡ ps ++ qs → Split rules ps qs ts
 split {rules = rules} {xs = xs} {ts = ts} {ns = ns} d [] qs e = record {
-    left = []; right = ts; left_trees = []; right_trees = ns; all = refl; first = nothing; second = subst (λ ys. Spells rules ys ts ns) e d }
+  left = [];
+  right = ts;
+  left_trees = [];
+  right_trees = ns;
+  all = refl;
+  first = nothing;
+  second = subst (λ ys. Spells rules ys ts ns) e d;
+}
 split nothing (q ∷ ps) qs e = absurd (cc)
 split {rules = rules} (without p xs ts ns needed d) (q ∷ ps) qs e =
     let same : p ≡ q = cc in let rest : xs ≡ ps ++ qs = cc in
@@ -114,7 +130,7 @@ split {rules = rules} (without p xs ts ns needed d) (q ∷ ps) qs e =
 split {rules = rules} (taking p xs t body ts us kids ns begins d d') (q ∷ ps) qs e =
     let same : p ≡ q = cc in let rest : xs ≡ ps ++ qs = cc in
     split_taking rules q ps qs t body ts us kids (ap (λ x. rules x.nonterminal t.kind) (sym same) ∙ begins) d
-      (split d' (leaving q ps) qs (subst₂ (λ x ys. leaving p xs ≡ leaving x ys) same rest refl ∙ leaving_append q ps qs))
+    (split d' (leaving q ps) qs (subst₂ (λ x ys. leaving p xs ≡ leaving x ys) same rest refl ∙ leaving_append q ps qs))
 
 -- ## The automaton's steps are derivatives
 
@@ -129,20 +145,24 @@ text_taking : (rules : Rules) (p : Piece) (ps : List Piece) (t : Terminal) (body
     → qs ≡ body ++ leaving p ps → Text rules qs us → Text rules (p ∷ ps) (t ∷ us)
 text_taking rules p ps t body qs us begins e x =
     let s = split x.spells body (leaving p ps) e in
-    record { trees = tree p.nonterminal t s.left_trees ∷ s.right_trees;
+    record {
+      trees = tree p.nonterminal t s.left_trees ∷ s.right_trees;
       spells = subst (λ xs. Spells rules (p ∷ ps) xs (tree p.nonterminal t s.left_trees ∷ s.right_trees)) (ap (λ xs. t ∷ xs) (sym s.all))
-        (taking p ps t body s.left s.right s.left_trees s.right_trees begins s.first s.second) }
+          (taking p ps t body s.left s.right s.left_trees s.right_trees begins s.first s.second);
+    }
 
 -- a text of what is to come after a terminal makes a text with it
 pub back : (rules : Rules) (ps : List Piece) (t : Terminal) (qs : List Piece) (us : List Terminal)
     → after rules t.kind ps ≡ Some qs → Text rules qs us → Text rules ps (t ∷ us)
 back rules [] t qs us e x = absurd (cc)
 back rules (p ∷ ps) t qs us e x =
-    elim (rules p.nonterminal t.kind) as (λ o. rules p.nonterminal t.kind ≡ o → taken_or p ps o (after rules t.kind ps) ≡ Some qs → Text rules (p ∷ ps) (t ∷ us))
-    [ Some body ↦ λ begins e'. text_taking rules p ps t body qs us begins (let same : qs ≡ body ++ leaving p ps = cc in same) x
-    | None ↦ λ begins e'. elim (is_needed p.occurs) as (λ b. is_needed p.occurs ≡ b → cond b None (after rules t.kind ps) ≡ Some qs → Text rules (p ∷ ps) (t ∷ us))
-      [ true ↦ λ needed e''. absurd (cc)
-      | false ↦ λ needed e''. text_without rules p ps (t ∷ us) needed (back rules ps t qs us e'' x) ] refl e' ] refl e
+    elim (rules p.nonterminal t.kind) as (λ o. rules p.nonterminal t.kind ≡ o → taken_or p ps o (after rules t.kind ps) ≡ Some qs → Text rules (p ∷ ps) (t ∷ us)) [
+      | Some body ↦ λ begins e'. text_taking rules p ps t body qs us begins (let same : qs ≡ body ++ leaving p ps = cc in same) x
+      | None ↦ λ begins e'. elim (is_needed p.occurs) as (λ b. is_needed p.occurs ≡ b → cond b None (after rules t.kind ps) ≡ Some qs → Text rules (p ∷ ps) (t ∷ us)) [
+        | true ↦ λ needed e''. absurd (cc)
+        | false ↦ λ needed e''. text_without rules p ps (t ∷ us) needed (back rules ps t qs us e'' x)
+      ] refl e'
+    ] refl e
 
 pub record Derived (rules : Rules) (follow : Nonterminal → ℕ → Type 0) (end : ℕ → Type 0) (ps : List Piece) (k : ℕ) (us : List Terminal) : Type 0 where
   pub stack : List Piece
@@ -154,9 +174,12 @@ pub record Derived (rules : Rules) (follow : Nonterminal → ℕ → Type 0) (en
 derived_without : (rules : Rules) (follow : Nonterminal → ℕ → Type 0) (end : ℕ → Type 0) (p : Piece) (ps : List Piece) (k : ℕ) (us : List Terminal)
     → is_needed p.occurs ≡ false → rules p.nonterminal k ≡ None → Derived rules follow end ps k us → Derived rules follow end (p ∷ ps) k us
 derived_without rules follow end p ps k us needed cant x = record {
-    stack = x.stack;
-    is = ap (λ o. taken_or p ps o (after rules k ps)) cant ∙ ap (λ b. cond b None (after rules k ps)) needed ∙ x.is;
-    trees = x.trees; spells = x.spells; apart = x.apart }
+  stack = x.stack;
+  is = ap (λ o. taken_or p ps o (after rules k ps)) cant ∙ ap (λ b. cond b None (after rules k ps)) needed ∙ x.is;
+  trees = x.trees;
+  spells = x.spells;
+  apart = x.apart;
+}
 
 -- with its first terminal taken, a text is a text of what is to come after it
 pub forth : {rules : Rules} (follow : Nonterminal → ℕ → Type 0) (end : ℕ → Type 0) (closed : Closed rules follow)
@@ -174,7 +197,8 @@ forth {rules = rules} follow end closed (taking p ps u body ts vs kids ns begins
       is = ap (λ o. taken_or p ps o (after rules t.kind ps)) begins';
       trees = kids ++ ns;
       spells = subst (λ xs. Spells rules (body ++ leaving p ps) xs (kids ++ ns)) rest (join d (leaving p ps) vs ns d');
-      apart = apart_taken rules follow end closed p ps t.kind body begins' a }
+      apart = apart_taken rules follow end closed p ps t.kind body begins' a;
+    }
 
 pub ended : {rules : Rules} {ps : List Piece} {ts : List Terminal} {ns : List Node} → Spells rules ps ts ns → ts ≡ [] → may_end ps ≡ true
 ended nothing e = refl
@@ -216,10 +240,11 @@ needed_once Repeated e = absurd (cc)
 
 some_taking : (rules : Rules) (p : Piece) (ps : List Piece) → is_needed p.occurs ≡ true → Made rules p.nonterminal → SomeText rules ps → SomeText rules (p ∷ ps)
 some_taking rules p ps needed m x = record {
-    text = m.head ∷ m.rest ++ x.text;
-    trees = tree p.nonterminal m.head m.kids ∷ x.trees;
-    spells = taking p ps m.head m.body m.rest x.text m.kids x.trees m.begins m.spells
-      (subst (λ b. Spells rules (cond b (p ∷ ps) ps) x.text x.trees) (sym (needed_once p.occurs needed)) x.spells) }
+  text = m.head ∷ m.rest ++ x.text;
+  trees = tree p.nonterminal m.head m.kids ∷ x.trees;
+  spells = taking p ps m.head m.body m.rest x.text m.kids x.trees m.begins m.spells
+      (subst (λ b. Spells rules (cond b (p ∷ ps) ps) x.text x.trees) (sym (needed_once p.occurs needed)) x.spells);
+}
 
 some_without : (rules : Rules) (p : Piece) (ps : List Piece) → is_needed p.occurs ≡ false → SomeText rules ps → SomeText rules (p ∷ ps)
 some_without rules p ps needed x = record { text = x.text; trees = x.trees; spells = without p ps x.text x.trees needed x.spells }
@@ -227,9 +252,10 @@ some_without rules p ps needed x = record { text = x.text; trees = x.trees; spel
 pub some_text : (rules : Rules) (ps : List Piece) → Ready rules ps → SomeText rules ps
 some_text rules [] r = record { text = []; trees = []; spells = nothing }
 some_text rules (p ∷ ps) r =
-    elim (is_needed p.occurs) as (λ b. is_needed p.occurs ≡ b → SomeText rules (p ∷ ps))
-    [ true ↦ λ needed. some_taking rules p ps needed (r.0 needed) (some_text rules ps r.1)
-    | false ↦ λ needed. some_without rules p ps needed (some_text rules ps r.1) ] refl
+    elim (is_needed p.occurs) as (λ b. is_needed p.occurs ≡ b → SomeText rules (p ∷ ps)) [
+      | true ↦ λ needed. some_taking rules p ps needed (r.0 needed) (some_text rules ps r.1)
+      | false ↦ λ needed. some_without rules p ps needed (some_text rules ps r.1)
+    ] refl
 
 ready_append : (rules : Rules) (ps qs : List Piece) → Ready rules ps → Ready rules qs → Ready rules (ps ++ qs)
 ready_append rules [] qs r s = s
@@ -244,11 +270,12 @@ Sound rules = (n : Nonterminal) (k : ℕ) (body : List Piece) → rules n k ≡ 
 pub ready_after : (rules : Rules) → Sound rules → (ps : List Piece) (k : ℕ) (qs : List Piece) → after rules k ps ≡ Some qs → Ready rules ps → Ready rules qs
 ready_after rules sound [] k qs e r = absurd (cc)
 ready_after rules sound (p ∷ ps) k qs e r =
-    elim (rules p.nonterminal k) as (λ o. rules p.nonterminal k ≡ o → taken_or p ps o (after rules k ps) ≡ Some qs → Ready rules qs)
-    [ Some body ↦ λ begins e'. let same : body ++ leaving p ps ≡ qs = cc in
-        subst (λ xs. Ready rules xs) same (ready_append rules body (leaving p ps) (sound p.nonterminal k body begins) (ready_leaving rules p ps r))
-    | None ↦ λ begins e'. elim (is_needed p.occurs) as (λ b. cond b None (after rules k ps) ≡ Some qs → Ready rules qs)
-      [ true ↦ λ e''. absurd (cc) | false ↦ λ e''. ready_after rules sound ps k qs e'' r.1 ] e' ] refl e
+    elim (rules p.nonterminal k) as (λ o. rules p.nonterminal k ≡ o → taken_or p ps o (after rules k ps) ≡ Some qs → Ready rules qs) [
+      | Some body ↦ λ begins e'. let same : body ++ leaving p ps ≡ qs = cc in
+          subst (λ xs. Ready rules xs) same (ready_append rules body (leaving p ps) (sound p.nonterminal k body begins) (ready_leaving rules p ps r))
+      | None ↦ λ begins e'. elim (is_needed p.occurs) as (λ b. cond b None (after rules k ps) ≡ Some qs → Ready rules qs)
+          [ true ↦ λ e''. absurd (cc) | false ↦ λ e''. ready_after rules sound ps k qs e'' r.1 ] e'
+    ] refl e
 
 -- ## The automaton stops at the first terminal at which no text can go on
 
@@ -268,8 +295,9 @@ module _ (rules : Rules) (follow : Nonterminal → ℕ → Type 0) (end : ℕ �
   stops_here : (ps : List Piece) (t : Terminal) (ts : List Terminal) → Apart rules follow end ps → Ready rules ps
       → after rules t.kind ps ≡ None → StopsAt rules ps [] (t ∷ ts)
   stops_here ps t ts a r e = record {
-      begins = begins_at rules ps r;
-      stuck = λ x. let y = forth follow end closed x.spells a t x.more refl in let is : after rules t.kind ps ≡ Some y.stack = y.is in absurd (cc) }
+    begins = begins_at rules ps r;
+    stuck = λ x. let y = forth follow end closed x.spells a t x.more refl in let is : after rules t.kind ps ≡ Some y.stack = y.is in absurd (cc);
+  }
 
   goes_on_later : (ps : List Piece) (t : Terminal) (qs : List Piece) (front left : List Terminal) → Apart rules follow end ps
       → after rules t.kind ps ≡ Some qs → GoesOn rules ps (t ∷ front) left → GoesOn rules qs front left
@@ -288,34 +316,39 @@ module _ (rules : Rules) (follow : Nonterminal → ℕ → Type 0) (end : ℕ �
       let x = back rules ps t qs (front ++ s.begins.more) e (record { trees = s.begins.trees; spells = s.begins.spells }) in
       record {
         begins = record { more = s.begins.more; trees = x.trees; spells = x.spells };
-        stuck = λ y. s.stuck (goes_on_later ps t qs front left a e y) }
+        stuck = λ y. s.stuck (goes_on_later ps t qs front left a e y);
+      }
 
   derived_apart : (ps : List Piece) (k : ℕ) (qs : List Piece) → after rules k ps ≡ Some qs → Apart rules follow end ps → Apart rules follow end qs
   derived_apart [] k qs e a = absurd (cc)
   derived_apart (p ∷ ps) k qs e a =
-      elim (rules p.nonterminal k) as (λ o. rules p.nonterminal k ≡ o → taken_or p ps o (after rules k ps) ≡ Some qs → Apart rules follow end qs)
-      [ Some body ↦ λ begins e'. let same : body ++ leaving p ps ≡ qs = cc in
-          subst (λ xs. Apart rules follow end xs) same (apart_taken rules follow end closed p ps k body begins a)
-      | None ↦ λ begins e'. elim (is_needed p.occurs) as (λ b. cond b None (after rules k ps) ≡ Some qs → Apart rules follow end qs)
-        [ true ↦ λ e''. absurd (cc) | false ↦ λ e''. derived_apart ps k qs e'' a.1 ] e' ] refl e
+      elim (rules p.nonterminal k) as (λ o. rules p.nonterminal k ≡ o → taken_or p ps o (after rules k ps) ≡ Some qs → Apart rules follow end qs) [
+        | Some body ↦ λ begins e'. let same : body ++ leaving p ps ≡ qs = cc in
+            subst (λ xs. Apart rules follow end xs) same (apart_taken rules follow end closed p ps k body begins a)
+        | None ↦ λ begins e'. elim (is_needed p.occurs) as (λ b. cond b None (after rules k ps) ≡ Some qs → Apart rules follow end qs)
+            [ true ↦ λ e''. absurd (cc) | false ↦ λ e''. derived_apart ps k qs e'' a.1 ] e'
+      ] refl e
 
   stops_through : (ps : List Piece) (t : Terminal) (qs : List Piece) (ts left : List Terminal) → Apart rules follow end ps
       → after rules t.kind ps ≡ Some qs → Stops rules qs ts left → Stops rules ps (t ∷ ts) left
   stops_through ps t qs ts left a e s = record {
-      front = t ∷ s.front;
-      all = ap (λ xs. t ∷ xs) s.all;
-      stops = stops_later ps t qs s.front left a e s.stops }
+    front = t ∷ s.front;
+    all = ap (λ xs. t ∷ xs) s.all;
+    stops = stops_later ps t qs s.front left a e s.stops;
+  }
 
   pub stops : (sound : Sound rules) (ts : List Terminal) (ps : List Piece) (left : List Terminal)
       → Apart rules follow end ps → Ready rules ps → fault rules ts ps ≡ Some left → Stops rules ps ts left
   stops sound [] ps left a r e =
-      elim (may_end ps) as (λ b. may_end ps ≡ b → cond b None (Some []) ≡ Some left → Stops rules ps [] left)
-      [ true ↦ λ m e'. absurd (cc)
-      | false ↦ λ m e'. let same : [] ≡ left = cc in
-          subst (λ xs. Stops rules ps [] xs) same (record { front = []; all = refl; stops = stops_end rules ps r m }) ] refl e
+      elim (may_end ps) as (λ b. may_end ps ≡ b → cond b None (Some []) ≡ Some left → Stops rules ps [] left) [
+        | true ↦ λ m e'. absurd (cc)
+        | false ↦ λ m e'. let same : [] ≡ left = cc in
+            subst (λ xs. Stops rules ps [] xs) same (record { front = []; all = refl; stops = stops_end rules ps r m })
+      ] refl e
   stops sound (t ∷ ts) ps left a r e =
-      elim (after rules t.kind ps) as (λ o. after rules t.kind ps ≡ o → going_on o (λ qs. fault rules ts qs) (t ∷ ts) ≡ Some left → Stops rules ps (t ∷ ts) left)
-      [ None ↦ λ is e'. let same : t ∷ ts ≡ left = cc in
-          subst (λ xs. Stops rules ps (t ∷ ts) xs) same (record { front = []; all = refl; stops = stops_here ps t ts a r is })
-      | Some qs ↦ λ is e'. stops_through ps t qs ts left a is
-          (stops sound ts qs left (derived_apart ps t.kind qs is a) (ready_after rules sound ps t.kind qs is r) e') ] refl e
+      elim (after rules t.kind ps) as (λ o. after rules t.kind ps ≡ o → going_on o (λ qs. fault rules ts qs) (t ∷ ts) ≡ Some left → Stops rules ps (t ∷ ts) left) [
+        | None ↦ λ is e'. let same : t ∷ ts ≡ left = cc in
+            subst (λ xs. Stops rules ps (t ∷ ts) xs) same (record { front = []; all = refl; stops = stops_here ps t ts a r is })
+        | Some qs ↦ λ is e'. stops_through ps t qs ts left a is
+            (stops sound ts qs left (derived_apart ps t.kind qs is a) (ready_after rules sound ps t.kind qs is r) e')
+      ] refl e

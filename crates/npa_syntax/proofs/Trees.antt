@@ -1,14 +1,11 @@
 -- A text has one tree: how far each piece reaches, and its trees, are decided.
 use Rattle.std.proofs.Common.{◌≡◌, ℕ, false, List, [], ◌∷◌, ◌++◌, Option, Some, None, refl, sym, ap, ◌∙◌, subst, subst₂, append_assoc, append-nil}
+use Rattle.std.proofs.lemmas.List.{append_cancel_left}
 use Rattle.npa_syntax.specs.declared.node.Terminal.{Terminal}
 use Rattle.npa_syntax.specs.declared.node.Node.{Node}
 use Rattle.npa_syntax.specs.Grammars.{Nonterminal, Piece, Rules, Spells, nothing, without, taking, is_needed, leaving, tree}
 use Rattle.npa_syntax.proofs.Steps.{leaving_append}
 use Rattle.npa_syntax.proofs.Texts.{Next, Clear, Apart, Closed, apart_leaving, apart_taken, next_begins, join}
-
-pub append_cancel : {A : Type 0} (xs ys zs : List A) → xs ++ ys ≡ xs ++ zs → ys ≡ zs
-append_cancel [] ys zs e = e
-append_cancel (x ∷ xs) ys zs e = let rest : xs ++ ys ≡ xs ++ zs = cc in append_cancel xs ys zs rest
 
 pub record Same (ts ts' : List Terminal) (ns ns' : List Node) : Type 0 where
   pub terminals : ts ≡ ts'
@@ -35,14 +32,14 @@ module _ (rules : Rules) (follow : Nonterminal → ℕ → Type 0) (end : ℕ �
   one_reading (without p ps ts ns needed d) (taking p' ps' t' body' ts' vs' kids' ns' begins' d' g') e st us us' ms ms' a f f' eq =
       let same : p' ≡ p = cc in
       absurd (torn rules follow end p (ps ++ st) t' body' (ts ++ us) ((ts' ++ vs') ++ us') (ns ++ ms) a.0 needed (join d st us ms f) eq
-        (ap (λ x. rules x.nonterminal t'.kind) (sym same) ∙ begins'))
+      (ap (λ x. rules x.nonterminal t'.kind) (sym same) ∙ begins'))
   one_reading (taking p ps t body ts vs kids ns begins d g) nothing e st us us' ms ms' a f f' eq = absurd (cc)
   one_reading (taking p ps t body ts vs kids ns begins d g) (without p' ps' ts' ns' needed' d') e st us us' ms ms' a f f' eq =
       let same : p ≡ p' = cc in
       let rest : ps' ≡ ps = cc in
       absurd (torn rules follow end p (ps ++ st) t body (ts' ++ us') ((ts ++ vs) ++ us) (ns' ++ ms') a.0
-        (ap (λ x. is_needed x.occurs) same ∙ needed')
-        (subst (λ xs. Spells rules (xs ++ st) (ts' ++ us') (ns' ++ ms')) rest (join d' st us' ms' f')) (sym eq) begins)
+      (ap (λ x. is_needed x.occurs) same ∙ needed')
+      (subst (λ xs. Spells rules (xs ++ st) (ts' ++ us') (ns' ++ ms')) rest (join d' st us' ms' f')) (sym eq) begins)
   one_reading (taking p ps t body ts vs kids ns begins d g) (taking p' ps' t' body' ts' vs' kids' ns' begins' d' g') e st us us' ms ms' a f f' eq =
       let same_p : p ≡ p' = cc in
       let rest : ps ≡ ps' = cc in
@@ -54,14 +51,15 @@ module _ (rules : Rules) (follow : Nonterminal → ℕ → Type 0) (end : ℕ �
       let a' = apart_taken rules follow end closed p (ps ++ st) t.kind body begins a in
       let a'' = subst (λ xs. Apart rules follow end (body ++ xs)) (leaving_append p ps st) a' in
       let inner : Same ts ts' kids kids' = one_reading d d' same_body (leaving p ps ++ st) (vs ++ us) (vs' ++ us') (ns ++ ms) (ns' ++ ms') a''
-        (join g st us ms f) (subst (λ xs. Spells rules (xs ++ st) (vs' ++ us') (ns' ++ ms')) (sym leave) (join g' st us' ms' f')) split in
-      let after : vs ++ us ≡ vs' ++ us' = append_cancel ts (vs ++ us) (vs' ++ us') (split ∙ ap (λ xs. xs ++ (vs' ++ us')) (sym inner.terminals)) in
+      (join g st us ms f) (subst (λ xs. Spells rules (xs ++ st) (vs' ++ us') (ns' ++ ms')) (sym leave) (join g' st us' ms' f')) split in
+      let after : vs ++ us ≡ vs' ++ us' = append_cancel_left ts (vs ++ us) (vs' ++ us') (split ∙ ap (λ xs. xs ++ (vs' ++ us')) (sym inner.terminals)) in
       let outer : Same vs vs' ns ns' = one_reading g g' leave st us us' ms ms'
-        (subst (λ xs. Apart rules follow end xs) (leaving_append p ps st) (apart_leaving rules follow end p (ps ++ st) a)) f f' after in
+      (subst (λ xs. Apart rules follow end xs) (leaving_append p ps st) (apart_leaving rules follow end p (ps ++ st) a)) f f' after in
       record {
         terminals = ap (λ x. x ∷ ts ++ vs) same_t ∙ ap (λ xs. t' ∷ xs ++ vs) inner.terminals ∙ ap (λ xs. t' ∷ ts' ++ xs) outer.terminals;
         trees = ap (λ x. tree x.nonterminal t kids ∷ ns) same_p ∙ ap (λ x. tree p'.nonterminal x kids ∷ ns) same_t
-          ∙ ap (λ xs. tree p'.nonterminal t' xs ∷ ns) inner.trees ∙ ap (λ xs. tree p'.nonterminal t' kids' ∷ xs) outer.trees }
+            ∙ ap (λ xs. tree p'.nonterminal t' xs ∷ ns) inner.trees ∙ ap (λ xs. tree p'.nonterminal t' kids' ∷ xs) outer.trees;
+      }
 
   pub one_tree : (ps : List Piece) (ts : List Terminal) (ns ns' : List Node) → Apart rules follow end ps
       → Spells rules ps ts ns → Spells rules ps ts ns' → ns ≡ ns'

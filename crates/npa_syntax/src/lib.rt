@@ -17,3 +17,4 @@ pub use fault::ReadFault;
 pub use grammar::Grammar;
 pub use node::{Node, Terminal};
 pub use production::{Occurrence, Part, Production};
+pub use reader::{read_all, read_front};

@@ -31,11 +31,21 @@ fn parts_after(productions: &'static [Production], symbol: u8, kind: u8) -> Opti
 fn room_in(nesting: u8, symbol: u8, room: u32) -> Option<u32>
     ensures { result ≡ room_of nesting symbol room }
 {
-    if symbol == nesting { room.checked_sub(1) } else { Some(room) }
+    if symbol == nesting {
+        room.checked_sub(1)
+    } else {
+        Some(room)
+    }
 }
 
 /// How a part begins at a place of the terminals, where `room` more brackets may open.
-pub fn opens_at(grammar: &Grammar, part: Part, room: u32, terminals: &[Terminal], at: usize) -> Option<Opening>
+pub fn opens_at(
+    grammar: &Grammar,
+    part: Part,
+    room: u32,
+    terminals: &[Terminal],
+    at: usize,
+) -> Option<Opening>
     ensures { IsOpening (rules_of (map plain grammar.now.productions.now) grammar.now.nesting) (piece room part) terminals.now at result }
 {
     let head = *terminals.get(at)?;

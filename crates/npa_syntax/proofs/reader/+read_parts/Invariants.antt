@@ -16,4 +16,5 @@ invariant-loop-next l = record {
   within : l.at ≤ length l.terminals;
   along : l.next ≤ length l.parts;
   pending : Pending (rules_of (map plain l.grammar.productions.now) l.grammar.nesting) (map (piece l.room) l.parts)
-      (map (piece l.room) (drop l.next l.parts)) (drop l.from l.terminals) l.nodes (drop l.at l.terminals); }
+      (map (piece l.room) (drop l.next l.parts)) (drop l.from l.terminals) l.nodes (drop l.at l.terminals);
+}
