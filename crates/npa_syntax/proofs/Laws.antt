@@ -176,9 +176,10 @@ module _ (l : Language) (test : decides l.productions l.nesting l.start ≡ true
 -- a text is the front of its terminals
 pub whole_front : (l : Language) (ts : List Terminal) (nodes : List Node) → IsText l ts nodes → IsFront l ts nodes (length ts)
 whole_front l ts nodes d = record {
-    within = le_refl (length ts);
-    text = subst (λ xs. IsText l xs nodes) (sym (take_all (length ts) ts (le_refl (length ts)))) d;
-    longest = subst (λ xs. NoneGoesOn l (take (length ts) ts) xs) (sym (drop_of_length-le ts (le_refl (length ts)))) tt }
+  within = le_refl (length ts);
+  text = subst (λ xs. IsText l xs nodes) (sym (take_all (length ts) ts (le_refl (length ts)))) d;
+  longest = subst (λ xs. NoneGoesOn l (take (length ts) ts) xs) (sym (drop_of_length-le ts (le_refl (length ts)))) tt;
+}
 
 -- a front that is the whole is a text
 pub front_whole : (l : Language) (ts : List Terminal) (nodes : List Node) (end : ℕ) → IsFront l ts nodes end → length ts ≤ end → IsText l ts nodes
@@ -191,10 +192,12 @@ goes_on_stuck l front (t ∷ left) none h g = none g
 -- where the front isn't the whole, its end is the fault
 pub front_fault : (l : Language) (ts : List Terminal) (nodes : List Node) (end : ℕ) → IsFront l ts nodes end → end < length ts → FaultAt l ts end
 front_fault l ts nodes end f h = record {
-    within = f.within;
-    stops = record {
-      begins = record { more = []; trees = nodes; spells = subst (λ xs. Spells (rules_in l) (start_in l) xs nodes) (sym (append-nil (take end ts))) f.text };
-      stuck = goes_on_stuck l (take end ts) (drop end ts) f.longest (omega (arith, length-drop end ts)) } }
+  within = f.within;
+  stops = record {
+    begins = record { more = []; trees = nodes; spells = subst (λ xs. Spells (rules_in l) (start_in l) xs nodes) (sym (append-nil (take end ts))) f.text };
+    stuck = goes_on_stuck l (take end ts) (drop end ts) f.longest (omega (arith, length-drop end ts));
+  };
+}
 
 pub only_fault : (l : Language) (ts : List Terminal) (e : ReadFault)
     → ((nodes : List Node) (end : ℕ) → IsFront l ts nodes end → Answers {A = List Node × ℕ} (Err e) (nodes, end))

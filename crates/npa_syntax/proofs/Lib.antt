@@ -1,5 +1,6 @@
 pub mod Decides
 pub mod Laws
+pub mod Folds
 pub mod Reading
 pub mod Steps
 pub mod Texts

@@ -6,13 +6,21 @@ use Rattle.npa_syntax.specs.declared.fault.ReadFault.{ReadFault}
 use Rattle.npa_syntax.specs.declared.fault.ReadFault.TheVariants.{Syntax, NoMemory}
 use Rattle.npa_syntax.specs.Grammars.{Piece, Rules}
 use Rattle.npa_syntax.specs.Automata.{Reads, Stuck}
-use Rattle.npa_syntax.specs.Languages.{Language, FaultAt}
+use Rattle.npa_syntax.specs.Languages.{Language, IsText, IsFront, FaultAt}
 
 -- the answer is this one, unless memory is wanting
 abbrev pub Answers : {A : Type 0} → Result A ReadFault → A → Type 0
 Answers (Ok found) wanted = found ≡ wanted
 Answers (Err (Syntax at)) wanted = ⊥
 Answers (Err NoMemory) wanted = Unit {0}
+
+-- Whichever trees the terminals have as a text, they are answered; so a text has one list of trees.
+pub record AnswersText (l : Language) (ts : List Terminal) (result : Result (List Node) ReadFault) : Type 0 where
+  pub every : (trees : List Node) → IsText l ts trees → Answers result trees
+
+-- Whichever front the terminals have, it is answered; so there is one.
+pub record AnswersFront (l : Language) (ts : List Terminal) (result : Result (List Node × ℕ) ReadFault) : Type 0 where
+  pub every : (trees : List Node) (end : ℕ) → IsFront l ts trees end → Answers result (trees, end)
 
 -- a place that is answered is the first at which no text can go on
 abbrev pub PlacesFault : {A : Type 0} → Language → List Terminal → Result A ReadFault → Type 0

@@ -1,6 +1,7 @@
 -- Grammars as tables of productions, and the test that one terminal of look-ahead decides.
 use Rattle.std.specs.Prelude.{◌≡◌, ℕ, zero, suc, Bool, true, false, cond, not, ◌&&◌, ◌==◌, List, [], ◌∷◌, ◌++◌, map, Option, Some, None}
 use Rattle.std.specs.List.{list_all, list_any}
+use Rattle.npa_syntax.specs.declared.production.Occurrence.TheVariants.{Once, Optional, Repeated}
 use Rattle.npa_syntax.specs.declared.production.Part.{Part}
 use Rattle.npa_syntax.specs.declared.production.Production.{Production}
 use Rattle.npa_syntax.specs.Grammars.{Nonterminal, Piece, Rules, is_needed, is_repeated}
@@ -10,6 +11,22 @@ pub record Rule : Type 0 where
   pub symbol : ℕ
   pub kind : ℕ
   pub parts : List Part
+
+-- ## The words in which a table is written
+
+abbrev pub one : ℕ → Part
+one symbol = record { symbol = symbol; occurs = Once }
+
+abbrev pub optional : ℕ → Part
+optional symbol = record { symbol = symbol; occurs = Optional }
+
+abbrev pub repeated : ℕ → Part
+repeated symbol = record { symbol = symbol; occurs = Repeated }
+
+abbrev pub rule : ℕ → ℕ → List Part → Rule
+rule symbol kind parts = record { symbol = symbol; kind = kind; parts = parts }
+
+-- ## From a table to the rules of a grammar
 
 -- the plain value of a production of the code
 abbrev pub plain : Production → Rule

@@ -7,6 +7,7 @@
 mod fault;
 mod grammar;
 mod node;
+mod nodes;
 mod opening;
 mod production;
 mod reader;
@@ -16,5 +17,6 @@ mod tests;
 pub use fault::ReadFault;
 pub use grammar::Grammar;
 pub use node::{Node, Terminal};
+pub use nodes::{child_of, head_of};
 pub use production::{Occurrence, Part, Production};
 pub use reader::{read_all, read_front};

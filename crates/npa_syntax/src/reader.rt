@@ -1,10 +1,9 @@
-ghost use Rattle.std.specs.Prelude.{◌≡◌, ℕ, ◌≤◌, List as ListOf, map, length, IfOk};
-ghost use Rattle.npa_syntax.specs.declared.node.Node.{Node as NodeOf};
+ghost use Rattle.std.specs.Prelude.{◌≡◌, ◌≤◌, map, length, IfOk};
 ghost use Rattle.npa_syntax.specs.Tables.{plain, piece, rules_of};
 ghost use Rattle.npa_syntax.specs.Grammars.{is_needed as needed};
 ghost use Rattle.npa_syntax.specs.Automata.{passed_by};
 ghost use Rattle.npa_syntax.specs.Languages.{language, IsText, IsFront};
-ghost use Rattle.npa_syntax.specs.Answers.{Answers, PlacesFault, ReadsOrStops};
+ghost use Rattle.npa_syntax.specs.Answers.{AnswersText, AnswersFront, PlacesFault, ReadsOrStops};
 
 use crate::fault::ReadFault;
 use crate::grammar::Grammar;
@@ -93,7 +92,7 @@ pub fn read_front(
     terminals: &[Terminal],
 ) -> Result<(List<Node>, usize), ReadFault>
     ensures found { IfOk result (λ read. IsFront (language grammar.now) terminals.now read.0 read.1) }
-    ensures only { (nodes : ListOf NodeOf) (end : ℕ) → IsFront (language grammar.now) terminals.now nodes end → Answers result (nodes, end) }
+    ensures only { AnswersFront (language grammar.now) terminals.now result }
     ensures fault { PlacesFault (language grammar.now) terminals.now result }
 {
     read_parts(alloc, grammar, grammar.limit, grammar.start, terminals, 0)
@@ -108,7 +107,7 @@ pub fn read_all(
     terminals: &[Terminal],
 ) -> Result<List<Node>, ReadFault>
     ensures found { IfOk result (IsText (language grammar.now) terminals.now) }
-    ensures only { (nodes : ListOf NodeOf) → IsText (language grammar.now) terminals.now nodes → Answers result nodes }
+    ensures only { AnswersText (language grammar.now) terminals.now result }
     ensures fault { PlacesFault (language grammar.now) terminals.now result }
 {
     let (nodes, end) = match read_front(alloc, grammar, terminals) {
