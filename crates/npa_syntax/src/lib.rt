@@ -1,0 +1,22 @@
+//! Grammars as tables, and one exact reader for all of them.
+//!
+//! A grammar is a table of productions, each of which begins with a terminal by whose kind it is
+//! known. A text is a list of terminals, its tree a list of nodes.
+#![tactic(auto)]
+
+mod fault;
+mod grammar;
+mod node;
+mod nodes;
+mod opening;
+mod production;
+mod reader;
+#[cfg(test)]
+mod tests;
+
+pub use fault::ReadFault;
+pub use grammar::Grammar;
+pub use node::{Node, Terminal};
+pub use nodes::{child_of, head_of};
+pub use production::{Occurrence, Part, Production};
+pub use reader::{read_all, read_front};
