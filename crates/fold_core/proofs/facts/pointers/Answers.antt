@@ -1,0 +1,6 @@
+use Rattle.fold_core.proofs.Soundness.{pointers_of}
+use Rattle.fold_core.proofs.Stepping.{sound_after}
+use Rattle.fold_core.proofs.facts.pointers.Goals as goal
+
+pub returns : goal.returns
+returns g c = λ f roots budget history core a. pointers_of (sound_after (g.met.F.Folding.lawful f) a)
