@@ -2,3 +2,4 @@ pub mod Values
 pub mod Runs
 pub mod State
 pub mod Instances
+pub mod Aims
