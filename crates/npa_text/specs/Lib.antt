@@ -11,3 +11,4 @@ pub mod MemReads
 pub mod MemPuts
 pub mod Terminals
 pub mod ReservedRows
+pub mod Languages

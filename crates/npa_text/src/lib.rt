@@ -4,6 +4,7 @@
 
 mod bytes;
 mod fault;
+mod grammars;
 mod memory;
 mod name;
 mod number;
@@ -12,11 +13,13 @@ mod outside;
 mod place;
 mod real;
 mod scan;
+pub mod symbols;
 pub mod terminals;
 mod token;
 mod words;
 
 pub use fault::{NoMemory, TextFault};
+pub use grammars::{MOST_NESTED, module_grammar, run_grammar, term_grammar};
 pub use memory::{Marks, MemEntries, MemEntry, MemFiles, MemSink};
 pub use name::{Name, Names, Word, Words};
 pub use number::put_number;
