@@ -1,11 +1,10 @@
 -- What a table that passes the test keeps: its rules are closed, and every piece has a text.
-use Rattle.std.proofs.Common.{◌≡◌, ℕ, zero, suc, Bool, true, false, cond, not, ◌&&◌, ◌||◌, ◌==◌, List, [], ◌∷◌, ◌++◌, map, Option, Some, None, refl, sym, ap, ◌∙◌, subst, inl, inr, IsTrue, eqb-true, eq-eqb}
-use Rattle.std.specs.List.{list_all, list_any}
+use Rattle.std.proofs.Common.{◌≡◌, ℕ, zero, suc, Bool, true, false, cond, not, ◌&&◌, ◌||◌, ◌==◌, List, [], ◌∷◌, ◌++◌, map, Some, None, refl, sym, ap, ◌∙◌, subst, inl, inr, eqb-true}
+use Rattle.std.specs.List.{list_all}
 use Rattle.npa_syntax.specs.declared.production.Part.{Part}
-use Rattle.npa_syntax.specs.declared.node.Terminal.{Terminal}
-use Rattle.npa_syntax.specs.Grammars.{Nonterminal, Piece, Rules, is_needed, is_repeated, leaving}
-use Rattle.npa_syntax.specs.Tables.{Rule, parts_of, room_in, piece, pieces_in, rules_of, mem, first_of, next_of, Follow, follow_of, leaving_part, parts_decide, rules_decide, follows, needs_only, is_made, texts_round, texts_rounds, texts, rules_need, distinct, decides}
-use Rattle.npa_syntax.proofs.Texts.{Starts, Next, Clear, Apart, Closed, Made, Ready, Sound, some_text}
+use Rattle.npa_syntax.specs.Grammars.{Nonterminal, Piece, is_needed, is_repeated, leaving}
+use Rattle.npa_syntax.specs.Tables.{Rule, parts_of, room_in, piece, pieces_in, rules_of, mem, first_of, next_of, Follow, follow_of, leaving_part, parts_decide, rules_decide, follows, needs_only, is_made, texts_round, texts_rounds, texts, rules_need, is_decided, is_productive}
+use Rattle.npa_syntax.proofs.Texts.{Next, Apart, Closed, Made, Ready, Sound, some_text}
 
 pub first_true : (a b : Bool) → (a && b) ≡ true → a ≡ true
 first_true true b e = refl
@@ -203,7 +202,7 @@ sound rs nesting e n k body begins =
     subst (λ xs. Ready (rules_of rs nesting) xs) r.is
     (needs_ready rs nesting (texts rs nesting) (texts_made rs nesting) r.room r.parts (needs_at (texts rs nesting) rs n.symbol k r.parts e r.looked_up))
 
--- what the test of a table gives, for texts of its start
+-- what the tests of a table give, for texts of its start
 pub record Decided (rs : List Rule) (nesting : ℕ) (start : List Part) : Type 0 where
   pub follow : List Follow
   pub rules_closed : Closed (rules_of rs nesting) (followed follow)
@@ -211,16 +210,14 @@ pub record Decided (rs : List Rule) (nesting : ℕ) (start : List Part) : Type 0
   pub start_apart : (room : ℕ) → Apart (rules_of rs nesting) (followed follow) (λ k. ⊥) (map (piece room) start)
   pub start_ready : (room : ℕ) → Ready (rules_of rs nesting) (map (piece room) start)
 
-pub decided : (rs : List Rule) (nesting : ℕ) (start : List Part) → decides rs nesting start ≡ true → Decided rs nesting start
-decided rs nesting start e =
+pub decided : (rs : List Rule) (nesting : ℕ) (start : List Part) → is_decided rs start ≡ true → is_productive rs nesting start ≡ true → Decided rs nesting start
+decided rs nesting start d e =
     let fs = follows rs start in
     let has = texts rs nesting in
-    let one = first_true (parts_decide rs fs start []) _ e in
-    let rest = second_true (parts_decide rs fs start []) _ e in
-    let two = first_true (rules_decide rs fs rs) _ rest in
-    let rest' = second_true (rules_decide rs fs rs) _ rest in
-    let three = first_true (needs_only has start) _ rest' in
-    let four = first_true (rules_need has rs) _ (second_true (needs_only has start) _ rest') in
+    let one = first_true (parts_decide rs fs start []) (rules_decide rs fs rs) d in
+    let two = second_true (parts_decide rs fs start []) (rules_decide rs fs rs) d in
+    let three = first_true (needs_only has start) (rules_need has rs) e in
+    let four = second_true (needs_only has start) (rules_need has rs) e in
     record {
       follow = fs;
       rules_closed = closed rs nesting fs two;

@@ -1,9 +1,9 @@
 -- Laws of functions of a whole syntax tree.
-use Rattle.std.proofs.Common.{◌≡◌, ℕ, List, map, refl, sym, ap, ◌∙◌}
+use Rattle.std.proofs.Common.{◌≡◌, ℕ, List, map, ap, ◌∙◌}
 use mathlib.Core.Former.{this, arity}
 use Rattle.npa_list.specs.formers.list.List.{the_former}
 use Rattle.npa_syntax.specs.declared.node.Terminal.{Terminal}
-use Rattle.npa_syntax.specs.declared.node.Node.{Node, Node', out-Node, roll-Node, outs-Node', Row_of-Node, items-the_row-Node, items_shown-the_row-Node-0}
+use Rattle.npa_syntax.specs.declared.node.Node.{Node, Node', outs-Node', Row_of-Node, items-the_row-Node, items_shown-the_row-Node-0}
 use Rattle.npa_syntax.specs.declared.node.Node.TheFolds.{fold_out-Node}
 use Rattle.npa_syntax.specs.Nodes.{symbol_of, head_of, children_of, fold_node}
 

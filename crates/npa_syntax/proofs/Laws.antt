@@ -1,17 +1,16 @@
 -- What the reader's answers mean for the language of a grammar.
-use Rattle.std.proofs.Common.{◌≡◌, ℕ, zero, suc, ◌+◌, ◌<◌, ◌≤◌, List, [], ◌∷◌, ◌++◌, map, length, take, drop, Option, Some, None, refl, sym, ap, ◌∙◌, subst, subst₂, ◌⊎◌, inl, inr, append_assoc, append-nil, take-append-drop, drop_of_length-le, take_all, Result, Ok, Err, arith, le_of_suc-le-suc, le_refl, length-drop, IfOk, true}
+use Rattle.std.proofs.Common.{◌≡◌, ℕ, zero, suc, ◌<◌, ◌≤◌, List, [], ◌∷◌, ◌++◌, length, take, drop, Some, None, refl, sym, ap, ◌∙◌, subst, append_assoc, append-nil, take-append-drop, drop_of_length-le, take_all, Result, Ok, Err, arith, le_of_suc-le-suc, le_refl, length-drop, IfOk, true}
 use Rattle.std.proofs.lemmas.List.{append_cancel_right}
-use native.Mathlib.Decide.{dec_lt}
 use Rattle.npa_syntax.specs.declared.node.Terminal.{Terminal}
 use Rattle.npa_syntax.specs.declared.node.Node.{Node}
 use Rattle.npa_syntax.specs.declared.fault.ReadFault.{ReadFault}
 use Rattle.npa_syntax.specs.declared.fault.ReadFault.TheVariants.{Syntax, NoMemory}
 use Rattle.npa_syntax.specs.Grammars.{Piece, Rules, Spells, Begins, GoesOn, StopsAt}
-use Rattle.npa_syntax.specs.Tables.{decides, piece, rules_of}
+use Rattle.npa_syntax.specs.Tables.{is_decided, is_productive}
 use Rattle.npa_syntax.specs.Automata.{fault, Follows, ends, same, Reads, Stuck}
 use Rattle.npa_syntax.specs.Languages.{Language, rules_in, start_in, IsText, FaultAt, NoneGoesOn, IsFront}
 use Rattle.npa_syntax.specs.Answers.{Answers, PlacesFault, ReadsBetween, StuckAt, ReadsOrStops}
-use Rattle.npa_syntax.proofs.Texts.{accepts, Stops, stops}
+use Rattle.npa_syntax.proofs.Texts.{accepts, stops}
 use Rattle.npa_syntax.proofs.Trees.{one_tree}
 use Rattle.npa_syntax.proofs.Decides.{Decided, followed, decided}
 
@@ -60,9 +59,9 @@ fault_front rules ps ts left s =
 
 -- ## The automaton's answer and the language
 
-module _ (l : Language) (test : decides l.productions l.nesting l.start ≡ true) where
+module _ (l : Language) (decides : is_decided l.productions l.start ≡ true) (produces : is_productive l.productions l.nesting l.start ≡ true) where
   laws : Decided l.productions l.nesting l.start
-  laws = decided l.productions l.nesting l.start test
+  laws = decided l.productions l.nesting l.start decides produces
 
   no_fault : (ts : List Terminal) (trees : List Node) → IsText l ts trees → fault (rules_in l) ts (start_in l) ≡ None
   no_fault ts trees d = accepts (followed laws.follow) (λ k. ⊥) laws.rules_closed ts (start_in l) trees (laws.start_apart l.limit) d

@@ -1,5 +1,5 @@
 -- The steps of the reader at places of the list of terminals and of the list of parts.
-use Rattle.std.proofs.Common.{◌≡◌, ℕ, ◌+◌, ◌<◌, ◌≤◌, Bool, true, false, cond, List, [], ◌∷◌, ◌++◌, map, length, take, drop, get_or, Option, Some, None, refl, sym, ap, ◌∙◌, subst, subst₂, drop-cons, add-one, add-zero, drop_of_length-le, le_trans, arith, Result, Ok, Err}
+use Rattle.std.proofs.Common.{◌≡◌, ℕ, ◌+◌, ◌<◌, ◌≤◌, true, false, cond, List, [], ◌∷◌, ◌++◌, map, length, drop, get_or, refl, sym, ap, ◌∙◌, subst, subst₂, drop-cons, add-one, add-zero, drop_of_length-le, arith, Err}
 use Rattle.npa_syntax.specs.declared.production.Occurrence.{Occurrence}
 use Rattle.npa_syntax.specs.declared.production.Occurrence.TheVariants.{Once, Optional, Repeated}
 use Rattle.npa_syntax.specs.declared.production.Part.{Part}
@@ -8,9 +8,9 @@ use Rattle.npa_syntax.specs.declared.node.Node.{Node}
 use Rattle.npa_syntax.specs.declared.opening.Opening.{Opening}
 use Rattle.npa_syntax.specs.declared.fault.ReadFault.{ReadFault}
 use Rattle.npa_syntax.specs.declared.fault.ReadFault.TheVariants.{Syntax, NoMemory}
-use Rattle.npa_syntax.specs.Grammars.{Nonterminal, Piece, Rules, is_needed, is_repeated, leaving, tree}
+use Rattle.npa_syntax.specs.Grammars.{Rules, is_needed, is_repeated, leaving, tree}
 use Rattle.npa_syntax.specs.Tables.{piece}
-use Rattle.npa_syntax.specs.Automata.{Pending, Reads, Stuck, CantBegin, passed_by}
+use Rattle.npa_syntax.specs.Automata.{Pending, CantBegin, passed_by}
 use Rattle.npa_syntax.specs.Openings.{OpensBy}
 use Rattle.npa_syntax.specs.Answers.{ReadsBetween, StuckAt, ReadsOrStops}
 use Rattle.npa_syntax.proofs.Steps.{pending_skip, pending_take, pending_last, stuck_here, stuck_below}

@@ -1,8 +1,8 @@
 -- The steps of the reader, against the automaton and the relation at once.
-use Rattle.std.proofs.Common.{◌≡◌, ℕ, Bool, true, false, cond, List, [], ◌∷◌, ◌++◌, Option, Some, None, refl, sym, ap, ◌∙◌, subst, subst₂, append_assoc, append-nil}
+use Rattle.std.proofs.Common.{◌≡◌, true, false, cond, List, [], ◌∷◌, ◌++◌, Some, None, refl, sym, ap, ◌∙◌, subst₂, append_assoc, append-nil}
 use Rattle.npa_syntax.specs.declared.node.Terminal.{Terminal}
 use Rattle.npa_syntax.specs.declared.node.Node.{Node}
-use Rattle.npa_syntax.specs.Grammars.{Nonterminal, Piece, Rules, Spells, nothing, without, taking, is_needed, is_repeated, leaving, tree}
+use Rattle.npa_syntax.specs.Grammars.{Piece, Rules, Spells, nothing, without, taking, is_needed, is_repeated, leaving, tree}
 use Rattle.npa_syntax.specs.Automata.{taken_or, after, may_end, going_on, fault, Follows, ends, same, Reads, Stuck, Pending, CantBegin}
 
 pub leaving_append : (p : Piece) (ps qs : List Piece) → leaving p (ps ++ qs) ≡ leaving p ps ++ qs

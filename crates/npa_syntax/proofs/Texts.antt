@@ -1,6 +1,6 @@
 -- Texts of pieces, the automaton's steps as derivatives, and the place at which it stops, over any
 -- rules that one terminal of look-ahead decides.
-use Rattle.std.proofs.Common.{◌≡◌, ℕ, Bool, true, false, cond, List, [], ◌∷◌, ◌++◌, Option, Some, None, refl, sym, ap, ◌∙◌, subst, subst₂, ◌⊎◌, inl, inr, append_assoc, append-nil}
+use Rattle.std.proofs.Common.{◌≡◌, ℕ, true, false, cond, List, [], ◌∷◌, ◌++◌, Some, None, refl, sym, ap, ◌∙◌, subst, subst₂, ◌⊎◌, inl, inr, append_assoc}
 use Rattle.npa_syntax.specs.declared.production.Occurrence.{Occurrence}
 use Rattle.npa_syntax.specs.declared.production.Occurrence.TheVariants.{Once, Optional, Repeated}
 use Rattle.npa_syntax.specs.declared.node.Terminal.{Terminal}
@@ -233,7 +233,7 @@ pub record SomeText (rules : Rules) (ps : List Piece) : Type 0 where
   pub trees : List Node
   pub spells : Spells rules ps text trees
 
-needed_once : (o : Occurrence) → is_needed o ≡ true → is_repeated o ≡ false
+pub needed_once : (o : Occurrence) → is_needed o ≡ true → is_repeated o ≡ false
 needed_once Once e = refl
 needed_once Optional e = refl
 needed_once Repeated e = absurd (cc)

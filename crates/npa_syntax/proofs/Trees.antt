@@ -1,11 +1,11 @@
 -- A text has one tree: how far each piece reaches, and its trees, are decided.
-use Rattle.std.proofs.Common.{◌≡◌, ℕ, false, List, [], ◌∷◌, ◌++◌, Option, Some, None, refl, sym, ap, ◌∙◌, subst, subst₂, append_assoc, append-nil}
+use Rattle.std.proofs.Common.{◌≡◌, ℕ, false, List, [], ◌∷◌, ◌++◌, Some, None, refl, sym, ap, ◌∙◌, subst, append_assoc, append-nil}
 use Rattle.std.proofs.lemmas.List.{append_cancel_left}
 use Rattle.npa_syntax.specs.declared.node.Terminal.{Terminal}
 use Rattle.npa_syntax.specs.declared.node.Node.{Node}
 use Rattle.npa_syntax.specs.Grammars.{Nonterminal, Piece, Rules, Spells, nothing, without, taking, is_needed, leaving, tree}
 use Rattle.npa_syntax.proofs.Steps.{leaving_append}
-use Rattle.npa_syntax.proofs.Texts.{Next, Clear, Apart, Closed, apart_leaving, apart_taken, next_begins, join}
+use Rattle.npa_syntax.proofs.Texts.{Clear, Apart, Closed, apart_leaving, apart_taken, next_begins, join}
 
 pub record Same (ts ts' : List Terminal) (ns ns' : List Node) : Type 0 where
   pub terminals : ts ≡ ts'

@@ -1,5 +1,5 @@
 -- The language of a grammar: which lists of terminals are its texts, with which trees.
-use Rattle.std.specs.Prelude.{◌≡◌, ℕ, ◌≤◌, List, [], ◌∷◌, ◌++◌, map, length, take, drop}
+use Rattle.std.specs.Prelude.{ℕ, ◌≤◌, List, [], ◌∷◌, ◌++◌, map, length, take, drop}
 use Rattle.npa_syntax.specs.declared.production.Part.{Part}
 use Rattle.npa_syntax.specs.declared.node.Terminal.{Terminal}
 use Rattle.npa_syntax.specs.declared.node.Node.{Node}

@@ -1,5 +1,5 @@
 -- What is read off a syntax tree.
-use Rattle.std.specs.Prelude.{◌≡◌, ℕ, ◌==◌, List, Option}
+use Rattle.std.specs.Prelude.{ℕ, ◌==◌, List, Option}
 use Rattle.std.specs.List.{find}
 use Rattle.std.specs.Option.{option_map}
 use Rattle.npa_syntax.specs.declared.node.Terminal.{Terminal}

@@ -1,10 +1,10 @@
 -- Grammars as tables of productions, and the test that one terminal of look-ahead decides.
-use Rattle.std.specs.Prelude.{◌≡◌, ℕ, zero, suc, Bool, true, false, cond, not, ◌&&◌, ◌==◌, List, [], ◌∷◌, ◌++◌, map, Option, Some, None}
+use Rattle.std.specs.Prelude.{ℕ, zero, suc, Bool, true, false, cond, not, ◌&&◌, ◌==◌, List, [], ◌∷◌, ◌++◌, map, Option, Some, None}
 use Rattle.std.specs.List.{list_all, list_any}
 use Rattle.npa_syntax.specs.declared.production.Occurrence.TheVariants.{Once, Optional, Repeated}
 use Rattle.npa_syntax.specs.declared.production.Part.{Part}
 use Rattle.npa_syntax.specs.declared.production.Production.{Production}
-use Rattle.npa_syntax.specs.Grammars.{Nonterminal, Piece, Rules, is_needed, is_repeated}
+use Rattle.npa_syntax.specs.Grammars.{Piece, Rules, is_needed, is_repeated}
 
 -- A production as a plain value: a nonterminal, the kind of terminal it begins with, what follows.
 pub record Rule : Type 0 where
@@ -153,14 +153,15 @@ abbrev pub rules_need : List ℕ → List Rule → Bool
 rules_need has [] = true
 rules_need has (r ∷ more) = needs_only has r.parts && rules_need has more
 
--- no two productions of a symbol begin with one kind
-abbrev pub distinct : List Rule → Bool
-distinct [] = true
-distinct (r ∷ rs) = not (mem r.kind (first_of rs r.symbol)) && distinct rs
+-- No two productions of a symbol begin with one kind.
+abbrev pub is_distinct : List Rule → Bool
+is_distinct [] = true
+is_distinct (r ∷ rs) = not (mem r.kind (first_of rs r.symbol)) && is_distinct rs
 
--- One terminal of look-ahead decides everywhere, and every symbol that is needed has a text.
-abbrev pub decides : List Rule → ℕ → List Part → Bool
-decides rs nesting start =
-    let fs = follows rs start in
-    let has = texts rs nesting in
-    parts_decide rs fs start [] && (rules_decide rs fs rs && (needs_only has start && (rules_need has rs && distinct rs)))
+-- Wherever a part may be left out or come again, the kind of the next terminal says which.
+abbrev pub is_decided : List Rule → List Part → Bool
+is_decided rs start = let fs = follows rs start in parts_decide rs fs start [] && rules_decide rs fs rs
+
+-- Every symbol that is needed somewhere has a text in which no bracket opens.
+abbrev pub is_productive : List Rule → ℕ → List Part → Bool
+is_productive rs nesting start = let has = texts rs nesting in needs_only has start && rules_need has rs

@@ -1,12 +1,7 @@
-use Rattle.std.proofs.Common.{◌≡◌, ℕ, ◌≤◌, ◌+◌, ◌<◌, ◌++◌, ◌∷◌, [], List, map, length, drop, get_or, sym, ◌∙◌, true, false, arith, Err}
+use Rattle.std.proofs.Common.{◌+◌, map, length, get_or, sym, ◌∙◌, arith}
 use Rattle.npa_syntax.specs.declared.production.Occurrence.TheVariants.{Once}
-use Rattle.npa_syntax.specs.declared.production.Part.{Part}
-use Rattle.npa_syntax.specs.declared.node.Node.{Node}
-use Rattle.npa_syntax.specs.Grammars.{Rules, is_needed, tree}
 use Rattle.npa_syntax.specs.Tables.{plain, piece, rules_of}
-use Rattle.npa_syntax.specs.Automata.{CantBegin, passed_by, Pending}
-use Rattle.npa_syntax.specs.Openings.{OpensBy}
-use Rattle.npa_syntax.specs.Answers.{ReadsBetween, StuckAt, ReadsOrStops}
+use Rattle.npa_syntax.specs.Answers.{ReadsBetween}
 use Rattle.npa_syntax.proofs.Reading.{left_out, fault_at, taken_at, fault_passed, all_read, passed_along}
 use Rattle.npa_syntax.proofs.reader.+read_parts.Goals as goal
 
