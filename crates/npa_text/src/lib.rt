@@ -29,3 +29,6 @@ pub use real::{RealFiles, RealOut};
 pub use scan::{lex, tokens};
 pub use token::{Kind, Lexed, MOST_BYTES, Raw, Raws, Token, Tokens, number_of, token_text};
 pub use words::{terminal_kind, word_kind};
+
+#[cfg(test)]
+mod tests;
