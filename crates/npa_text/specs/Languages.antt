@@ -66,7 +66,7 @@ module_rules =
     rule AT_WORD AT ([]) ∷
     []
 
-abbrev pub module_language : Language
+unfoldable pub module_language : Language
 module_language = record { productions = module_rules; start = one MODULE ∷ []; nesting = ARGUMENTS; limit = 1200 }
 
 -- A term, as it stands in a module.
@@ -78,7 +78,7 @@ term_rules =
     rule CLOSING CLOSE ([]) ∷
     []
 
-abbrev pub term_language : Language
+unfoldable pub term_language : Language
 term_language = record { productions = term_rules; start = one TERM ∷ []; nesting = ARGUMENTS; limit = 1200 }
 
 -- A run text: perhaps the word of a printed run, instances with their parameters, and a schedule.
@@ -98,5 +98,5 @@ run_rules =
     rule CLOSING CLOSE ([]) ∷
     []
 
-abbrev pub run_language : Language
+unfoldable pub run_language : Language
 run_language = record { productions = run_rules; start = optional REACHED_WORD ∷ repeated USED ∷ one SCHEDULE ∷ []; nesting = GROUND_ARGUMENTS; limit = 1200 }

@@ -10,6 +10,7 @@ use npa_syntax::{Grammar, one, optional, production, repeated};
 pub const MOST_NESTED: u32 = 1_200;
 
 /// The grammar of module texts.
+#[tactic(auto, unfolding(crate::specs::Languages::module_language))]
 pub fn module_grammar() -> Grammar
     ensures { language result ≡ module_language }
 {
@@ -184,6 +185,7 @@ pub fn module_grammar() -> Grammar
 }
 
 /// The grammar of terms, as they stand in module texts.
+#[tactic(auto, unfolding(crate::specs::Languages::term_language))]
 pub fn term_grammar() -> Grammar
     ensures { language result ≡ term_language }
 {
@@ -205,6 +207,7 @@ pub fn term_grammar() -> Grammar
 }
 
 /// The grammar of run texts.
+#[tactic(auto, unfolding(crate::specs::Languages::run_language))]
 pub fn run_grammar() -> Grammar
     ensures { language result ≡ run_language }
 {
