@@ -1,3 +1,4 @@
 pub mod Rows
 pub mod Declared
 pub mod Meanings
+pub mod Prints

@@ -13,7 +13,7 @@ use Rattle.npa_sig.specs.declared.meaning.Scoped.{Scoped}
 use Rattle.npa_sig.specs.declared.meaning.Head.{Head}
 use Rattle.npa_sig.specs.declared.meaning.Head.TheVariants.{Variable, Operator}
 use Rattle.npa_sig.specs.Signature.{Signature}
-use Rattle.npa_sig.specs.Words.{text_of}
+use Rattle.npa_text.specs.Texts.{text_of}
 use Rattle.npa_sig.specs.Meaning.{variable_of, head_of, sort_at, one_fits, all_fit, fits, is_none_left, unknown, unfit, with_args, in_front, judged, read, read_row, sorts_of_row, read_all, Tells, TellsFault}
 
 pub variable_of_step : (word : List ℕ) (scope : List Scoped) (k : ℕ) (d : Scoped) → k < length scope →

@@ -1,4 +1,4 @@
-pub mod Words
 pub mod Signature
 pub mod Sorting
 pub mod Meaning
+pub mod Printing

@@ -15,7 +15,7 @@ use Rattle.npa_sig.specs.declared.meaning.Head.TheVariants.{Variable, Operator}
 use Rattle.npa_sig.specs.declared.signature.OpDecl.{OpDecl}
 use Rattle.npa_sig.specs.Signature.{Signature, number_of}
 use Rattle.npa_sig.specs.Sorting.{is_below}
-use Rattle.npa_sig.specs.Words.{text_of}
+use Rattle.npa_text.specs.Texts.{text_of}
 
 -- the variable that a scope gives a word
 abbrev pub variable_of : List ℕ → List Scoped → Option Variable_

@@ -4,14 +4,14 @@
 
 mod fault;
 mod meaning;
+mod printing;
 mod protocol;
 mod signature;
 mod sorting;
-mod words;
 
 pub use fault::{SigFail, UseFail};
 pub use meaning::{Scope, Scoped, resolve};
+pub use printing::print_term;
 pub use protocol::{Equation, Equations, Event, Events, Protocol, Strand, Strands};
 pub use signature::{OpDecl, OpDecls, Sig, SortNums};
 pub use sorting::{FRESH, MSG};
-pub use words::word;

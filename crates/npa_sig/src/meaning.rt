@@ -3,10 +3,9 @@ ghost use Rattle.npa_sig.specs.Meaning.{read, Gives, head_of, variable_of, opera
 
 use crate::fault::UseFail;
 use crate::signature::Sig;
-use crate::words::word;
 use npa_list::List;
 use npa_term::{Op, Term, Var};
-use npa_text::{Name, Raw, Token};
+use npa_text::{Name, Raw, Token, token_text};
 use std::alloc::Global;
 
 /// A name that stands for a variable.
@@ -51,7 +50,7 @@ fn read(
     ensures { Gives result (read sig.now scope.now bytes.now raw.now) }
 {
     let args = raw.args.as_slice();
-    let head = match head_of(sig, scope, word(bytes, raw.head)) {
+    let head = match head_of(sig, scope, token_text(bytes, raw.head)) {
         Some(head) => head,
         None => return Err(unknown(alloc, bytes, raw.head)),
     };
@@ -152,7 +151,7 @@ fn one_fits(sig: &Sig, sort: Option<u16>, declared: u16) -> bool
 fn sort_at(sig: &Sig, scope: &[Scoped], bytes: &[u8], raw: &Raw) -> Option<u16>
     ensures { result ≡ sort_at sig.now scope.now bytes.now raw.now }
 {
-    match head_of(sig, scope, word(bytes, raw.head))? {
+    match head_of(sig, scope, token_text(bytes, raw.head))? {
         Head::Variable(v) => Some(v.sort),
         Head::Operator(op) => Some(op.result),
     }
@@ -162,7 +161,7 @@ fn sort_at(sig: &Sig, scope: &[Scoped], bytes: &[u8], raw: &Raw) -> Option<u16>
 fn unknown(alloc: Global, bytes: &[u8], token: Token) -> UseFail
     ensures { Tells result (unknown bytes.now token) }
 {
-    match List::from_slice(alloc, word(bytes, token)) {
+    match List::from_slice(alloc, token_text(bytes, token)) {
         Ok(name) => UseFail::Name {
             name,
             line: token.line,
@@ -176,7 +175,7 @@ fn unknown(alloc: Global, bytes: &[u8], token: Token) -> UseFail
 fn unfit(alloc: Global, bytes: &[u8], token: Token) -> UseFail
     ensures { Tells result (unfit bytes.now token) }
 {
-    match List::from_slice(alloc, word(bytes, token)) {
+    match List::from_slice(alloc, token_text(bytes, token)) {
         Ok(name) => UseFail::Sort {
             name,
             line: token.line,
