@@ -1,6 +1,6 @@
 -- What is found at a byte is a token of the table, and each token of the table is found.
-use Rattle.std.proofs.Common.{◌≡◌, ℕ, suc, zero, ◌+◌, ◌-◌, ◌<◌, ◌≤◌, ◌^◌, Bool, true, false, cond, Option, Some, None, List, [], ◌∷◌, ◌++◌, length, get_or, take, drop, refl, ap, ◌∙◌, arith, sym, subst, inl, inr, rules, lit<, lit≤}
-use Rattle.std.specs.Prelude.{◌==◌, not, nat_le, ◌&&◌, ◌||◌, IsTrue, ◌⊎◌, codes}
+use Rattle.std.proofs.Common.{◌≡◌, ℕ, ◌<◌, ◌≤◌, ◌^◌, Bool, true, false, cond, Option, Some, None, List, [], ◌∷◌, ◌++◌, length, take, drop, refl, ap, ◌∙◌, arith, sym, subst, lit<}
+use Rattle.std.specs.Prelude.{◌==◌, not, ◌||◌}
 use Rattle.std.specs.List.{list_all}
 use Rattle.std.specs.Fmt.{decimal}
 use Rattle.std.proofs.lemmas.Bool.Decides.{nat_tests}

@@ -1,6 +1,6 @@
 -- Each piece of a text stands on one line: its bytes behind the first are none of them a line feed.
-use Rattle.std.proofs.Common.{◌≡◌, ℕ, suc, zero, ◌+◌, ◌-◌, ◌<◌, ◌≤◌, Bool, true, false, cond, Option, Some, None, List, [], ◌∷◌, length, get_or, take, drop, refl, ap, ◌∙◌, arith, sym, subst}
-use Rattle.std.specs.Prelude.{◌==◌, not}
+use Rattle.std.proofs.Common.{◌≡◌, ℕ, ◌+◌, ◌≤◌, Bool, true, false, cond, Option, Some, None, List, [], ◌∷◌, take, refl, arith, subst}
+use Rattle.std.specs.Prelude.{◌==◌}
 use Rattle.npa_text.specs.declared.token.Kind.{Kind}
 use Rattle.npa_text.specs.declared.token.Kind.TheVariants.{Word, Number, FreshName, VariableMark, Minus, Arrow}
 use Rattle.std.proofs.lemmas.Bool.Decides.{nat_tests}

@@ -1,5 +1,5 @@
 -- The bytes that texts are made of, as codes of ASCII.
-use Rattle.std.specs.Prelude.{ℕ, Bool, true, false, ◌==◌, ◌&&◌, ◌||◌, not, nat_le, List, [], ◌∷◌, ◌+◌, if◌then◌else◌}
+use Rattle.std.specs.Prelude.{ℕ, Bool, false, ◌==◌, ◌&&◌, ◌||◌, not, nat_le, List, [], ◌∷◌, ◌+◌, if◌then◌else◌}
 
 -- a tab, a line feed, a carriage return or a space
 abbrev pub is_blank : ℕ → Bool

@@ -1,6 +1,6 @@
 -- The tokens of a text: between them stand only blanks and comments, and a comment goes from `//`
 -- (47 47) to the end of its line.
-use Rattle.std.specs.Prelude.{ℕ, zero, suc, Bool, true, false, ◌==◌, ◌&&◌, not, List, [], ◌∷◌, ◌++◌, ◌+◌, ◌≡◌, IsTrue, Option, Some, None, length, take, if◌then◌else◌}
+use Rattle.std.specs.Prelude.{ℕ, zero, suc, Bool, false, ◌==◌, ◌&&◌, List, [], ◌∷◌, ◌++◌, ◌+◌, ◌≡◌, IsTrue, Option, Some, None, length, take, if◌then◌else◌}
 use Rattle.std.specs.List.{list_all}
 use Rattle.npa_text.specs.declared.token.Kind.{Kind}
 use Rattle.npa_text.specs.declared.token.Kind.TheVariants.{Word, Number, FreshName, VariableMark, Open, Close, Comma, Colon, Semicolon, Equals, Less, Plus, Minus, Arrow}
