@@ -10,7 +10,8 @@ use Rattle.npa_text.specs.declared.token.Lexed.{Lexed}
 use Rattle.npa_text.specs.declared.place.Place.{Place}
 use Rattle.npa_text.specs.Bytes.{is_blank, is_in_line, run, begins_with}
 use Rattle.npa_text.specs.Places.{moved, moved_over, first_place}
-use Rattle.npa_text.specs.Scans.{Lexes, ended, blank, comment, token, stuck, NothingBegins, begins_comment, token_of, gap_of, piece_from, met, scan, in_front, lexed}
+use Rattle.npa_text.specs.Lexing.{Lexes, ended, blank, comment, token, stuck, NothingBegins, begins_comment}
+use Rattle.npa_text.specs.Scans.{token_of, gap_of, piece_from, met, scan, in_front, lexed}
 use Rattle.npa_text.proofs.Runs.{run_passes, run_is_past, run_of_passing, is_past}
 use Rattle.npa_text.proofs.Decimals.{both_true}
 use Rattle.npa_text.proofs.Widths.{lexeme_within}

@@ -6,7 +6,8 @@ use Rattle.npa_text.specs.declared.token.Kind.TheVariants.{Word, Number, FreshNa
 use Rattle.std.proofs.lemmas.Bool.Decides.{nat_tests}
 use Rattle.npa_text.specs.Bytes.{is_letter, is_digit, is_word_byte, is_in_line, is_blank, run, begins_with}
 use Rattle.npa_text.specs.Numerals.{is_numeral}
-use Rattle.npa_text.specs.Scans.{token_of, gap_of, numbered, marked, mark_of, begins_comment}
+use Rattle.npa_text.specs.Lexing.{begins_comment}
+use Rattle.npa_text.specs.Scans.{token_of, gap_of, numbered, marked, mark_of}
 
 digit_in_line : (b : ℕ) → is_digit b ≡ true → is_in_line b ≡ true
 digit_in_line b h = grind (arith, nat_tests)

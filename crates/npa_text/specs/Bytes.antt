@@ -7,7 +7,7 @@ is_blank b = b == 9 || b == 10 || b == 13 || b == 32
 
 -- `A` to `Z` or `a` to `z`
 abbrev pub is_letter : ℕ → Bool
-is_letter b = nat_le 65 b && nat_le b 90 || nat_le 97 b && nat_le b 122
+is_letter b = (nat_le 65 b && nat_le b 90) || (nat_le 97 b && nat_le b 122)
 
 -- `0` to `9`
 abbrev pub is_digit : ℕ → Bool
