@@ -7,7 +7,12 @@ mod error;
 mod event;
 pub mod facts;
 mod folding;
+mod numbers;
+#[cfg(test)]
+mod tests;
+pub mod replay;
 
 pub use error::{ExpandFail, Large, Measure, NoMemory};
 pub use event::{Event, Events, Origin, Placed, PlacedList, Status};
 pub use folding::Folding;
+pub use numbers::Numbers;
