@@ -1,5 +1,5 @@
 -- What a step by each kind of event says.
-use Rattle.std.proofs.Common.{◌≡◌, ℕ, ◌+◌, Bool, true, false, List, [], ◌∷◌, ◌++◌, length, map, set, Option, None, Some, Ok, Err, refl, ap, sym, ◌∙◌, subst, ap₂}
+use Rattle.std.proofs.Common.{◌≡◌, ℕ, ◌+◌, List, ◌∷◌, length, map, set, None, Some, refl, subst}
 use Rattle.fold_core.specs.declared.error.Large.{Large}
 use Rattle.fold_core.specs.declared.event.Placed.{Placed}
 use Rattle.fold_core.specs.declared.event.Origin.TheVariants.{Root as FromRoot, Child}
@@ -74,6 +74,6 @@ next_of {r = r} {tick = tick} {parent = parent} {d = d} (settles k y ys q qs c d
     let place : q ≡ p = cc in
     let places : qs ≡ ps = cc in
     subst (λ w. NextChild r tick parent k w xs p ps c d') item
-      (subst (λ w. NextChild r tick parent k y w p ps c d') items
-        (subst (λ w. NextChild r tick parent k y ys w ps c d') place
-          (subst (λ w. NextChild r tick parent k y ys q w c d') places (record { accepts = a; rest = rest }))))
+    (subst (λ w. NextChild r tick parent k y w p ps c d') items
+    (subst (λ w. NextChild r tick parent k y ys w ps c d') place
+    (subst (λ w. NextChild r tick parent k y ys q w c d') places (record { accepts = a; rest = rest }))))

@@ -1,16 +1,16 @@
 -- A history leads to one state, and a part of it to one before.
-use Rattle.std.proofs.Common.{◌≡◌, ◌≢◌, ℕ, zero, suc, ◌+◌, ◌<◌, ◌≤◌, Bool, true, false, List, [], ◌∷◌, ◌++◌, length, map, set, take, drop, get_or, Option, None, Some, refl, ap, sym, ◌∙◌, subst, arith, append_assoc, append-nil, take-append-drop, drop-cons, add-one, cond}
+use Rattle.std.proofs.Common.{◌≡◌, ℕ, suc, ◌+◌, ◌<◌, List, [], ◌∷◌, ◌++◌, length, set, take, drop, get_or, refl, ap, sym, ◌∙◌, subst, append_assoc, append-nil, take-append-drop, drop-cons, cond}
 use Rattle.std.proofs.lemmas.List.{take_more}
 use Rattle.fold_core.specs.declared.event.Placed.{Placed}
 use Rattle.fold_core.specs.declared.event.Origin.TheVariants.{Root as FromRoot, Child}
 use Rattle.fold_core.specs.declared.event.Status.TheVariants.{Taken}
 use Rattle.fold_core.specs.declared.event.Event.{Event}
 use Rattle.fold_core.specs.Rules.{Rules}
-use Rattle.fold_core.specs.Machine.{is_root, roots_placed, Entry, Core, Stands, placed, Accepts, empty, Settles, settled, settles, let_go, Step, After, begin, more}
+use Rattle.fold_core.specs.Machine.{is_root, roots_placed, Entry, Core, Stands, placed, empty, Settles, settled, settles, let_go, Step, After, begin, more}
 use Rattle.fold_core.specs.Machine.Step.{root, take as takes, insert, finish, halt, reset}
 use Rattle.fold_core.proofs.Places.{stands_one}
 use Rattle.fold_core.proofs.Histories.{same_children, roots_more}
-use Rattle.fold_core.proofs.Inversions.{step_says, NextChild, next_of}
+use Rattle.fold_core.proofs.Inversions.{step_says, next_of}
 
 -- The children of an entry lead to one state.
 pub settles_unique : {I : Type 0} {r : Rules I} {tick parent k : ℕ} {xs : List I} {ps : List Placed} {c d e : Core I}
@@ -135,7 +135,7 @@ refused_after {r = r} {roots = roots} {budget = budget} history k event c is wit
     let rest = drop (suc k) history in
     let next : drop k history ≡ event ∷ rest = drop-cons history k event within ∙ ap (λ w. w ∷ rest) (sym is) in
     let parts : history ≡ (front ++ event ∷ []) ++ rest =
-      sym (take-append-drop k history) ∙ ap (λ w. front ++ w) next ∙ sym (joined front (event ∷ []) rest) in
+    sym (take-append-drop k history) ∙ ap (λ w. front ++ w) next ∙ sym (joined front (event ∷ []) rest) in
     let part = reached_part all (front ++ event ∷ []) rest parts in
     let l = last_step part.after front event refl in
     none part.core (subst (λ w. Step r roots budget front w event part.core) (one_state l.after a) l.step)

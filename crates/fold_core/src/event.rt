@@ -1,7 +1,7 @@
-use crate::error::Large;
 ghost use Rattle.std.specs.Prelude.{◌≡◌};
 ghost use Rattle.fold_core.specs.Machine.{is_live, is_waiting, is_taken, is_root};
 
+use crate::error::Large;
 use npa_list::List;
 
 /// Where an item was placed.

@@ -8,8 +8,7 @@ use crate::folding::Folding;
 /// A history leads to one state, so each event says what becomes of the state before it.
 pub fn one_state<F: Folding>()
     ensures { (f : F) → Always (F.rules f) (λ roots budget history core. OneState (F.rules f) roots budget history core) }
-{
-}
+{}
 
 /// Each retired entry points to a later entry, which covers it and is live or was retired at the
 /// same event or a later one.

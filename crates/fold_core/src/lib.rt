@@ -8,9 +8,9 @@ mod event;
 pub mod facts;
 mod folding;
 mod numbers;
+pub mod replay;
 #[cfg(test)]
 mod tests;
-pub mod replay;
 
 pub use error::{ExpandFail, Large, Measure, NoMemory};
 pub use event::{Event, Events, Origin, Placed, PlacedList, Status};

@@ -2,11 +2,10 @@ ghost use Rattle.std.specs.Prelude.{◌≡◌, ◌<◌, ◌↔◌, IsTrue, IfOk}
 ghost use Rattle.std.specs.List.{range_with_len};
 ghost use Rattle.fold_core.specs.Numbers.{covers_number, numbers, numbers_lawful};
 
-use npa_list::List;
-use std::alloc::Global;
-
 use crate::error::{ExpandFail, Large, Measure, NoMemory};
 use crate::folding::Folding;
+use npa_list::List;
+use std::alloc::Global;
 
 /// Rules over numbers, to run the machine by hand: a number covers those up to itself that have the
 /// same tens, is initial from `goal` on, and is past a limit from `limit` on. Below that 0 expands

@@ -9,14 +9,13 @@ ghost use Rattle.fold_core.specs.Numbers.{numbers};
 ghost use Rattle.fold_core.specs.Machine.{Entry, Core, Stands, LiveCover, empty, is_live, is_taken, least_cover, least_waiting, taken_count, overtaken, kept, placed, place_of, Accepts, Expanding, Overflowing, let_go, put_back_entry, roots_placed, Step, After};
 ghost use Rattle.fold_core.specs.Replay.{TakenItem, Ran, RanAll, Puts};
 
-use npa_list::List;
-use std::alloc::Global;
-use std::marker::Model;
-
 use crate::error::{ExpandFail, Large, NoMemory};
 use crate::event::{Event, Events, Origin, Placed, PlacedList, Status};
 use crate::folding::Folding;
 use crate::numbers::{Numbers, covers_number};
+use npa_list::List;
+use std::alloc::Global;
+use std::marker::Model;
 
 /// A kept number, where it comes from and how far it has come.
 #[derive(Debug, Drop)]
@@ -280,12 +279,28 @@ impl State {
     }
 
     /// Keeps the item as entry `to`, the next, by the event at the tick.
-    fn keep(&mut self, alloc: Global, rules: &Numbers, item: u64, origin: Origin, to: u32, tick: u64) -> Result<(), NoMemory>
+    fn keep(
+        &mut self,
+        alloc: Global,
+        rules: &Numbers,
+        item: u64,
+        origin: Origin,
+        to: u32,
+        tick: u64,
+    ) -> Result<(), NoMemory>
         requires { to ≡ length self.old.entries }
         ensures ok { OnOk result (self.new ≡ kept (numbers rules.now) tick item origin self.old) }
         ensures err { OnErr result (self.new ≡ self.old) }
     {
-        let entries = with_kept(alloc, rules, self.entries.as_slice(), item, origin, to, tick)?;
+        let entries = with_kept(
+            alloc,
+            rules,
+            self.entries.as_slice(),
+            item,
+            origin,
+            to,
+            tick,
+        )?;
         self.entries = entries;
         if self.found.is_none() && rules.initial(&item) {
             self.found = Some(to as usize);
@@ -367,7 +382,12 @@ impl State {
     }
 
     /// The children of entry `entry`, where it is taken and they are a list.
-    fn children(&self, alloc: Global, rules: &Numbers, entry: u32) -> Result<Option<List<u64>>, NoMemory>
+    fn children(
+        &self,
+        alloc: Global,
+        rules: &Numbers,
+        entry: u32,
+    ) -> Result<Option<List<u64>>, NoMemory>
         ensures some { IfOk result (λ o. IfSome o (λ xs. Expanding (numbers rules.now) entry xs self.now)) }
         ensures none { IfOk result (λ o. IfNone o ((xs : List ℕ) → Expanding (numbers rules.now) entry xs self.now → ⊥)) }
     {
@@ -382,7 +402,12 @@ impl State {
     }
 
     /// What is past a limit in the expansion of entry `entry`, where it is taken and something is.
-    fn overflow(&self, alloc: Global, rules: &Numbers, entry: u32) -> Result<Option<Large>, NoMemory>
+    fn overflow(
+        &self,
+        alloc: Global,
+        rules: &Numbers,
+        entry: u32,
+    ) -> Result<Option<Large>, NoMemory>
         ensures some { IfOk result (λ o. IfSome o (λ why. Overflowing (numbers rules.now) entry why self.now)) }
         ensures none { IfOk result (λ o. IfNone o ((why : Large) → Overflowing (numbers rules.now) entry why self.now → ⊥)) }
     {
@@ -416,7 +441,14 @@ impl State {
             return Ok(false);
         };
         let tick = before.len() as u64;
-        self.place(alloc, &problem.rules, *item, Origin::Root(number), place, tick)
+        self.place(
+            alloc,
+            &problem.rules,
+            *item,
+            Origin::Root(number),
+            place,
+            tick,
+        )
     }
 
     /// Entry `entry` is taken.
@@ -459,7 +491,14 @@ impl State {
             return Ok(false);
         };
         let tick = before.len() as u64;
-        self.place(alloc, &problem.rules, *item, Origin::Child { parent, child }, place, tick)
+        self.place(
+            alloc,
+            &problem.rules,
+            *item,
+            Origin::Child { parent, child },
+            place,
+            tick,
+        )
     }
 
     /// The expansion of entry `entry` is past a limit.

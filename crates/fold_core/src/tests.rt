@@ -1,14 +1,13 @@
-use npa_list::List;
-use std::alloc::Global;
-use std::process::Abort;
-use std::test::Fail;
-
 use crate::error::{ExpandFail, Large, Measure, NoMemory};
 use crate::event::{Event, Placed, PlacedList, Status};
 use crate::facts;
 use crate::folding::Folding;
 use crate::numbers::Numbers;
 use crate::replay::{Problem, State, after};
+use npa_list::List;
+use std::alloc::Global;
+use std::process::Abort;
+use std::test::Fail;
 
 /// Rules with no initial number and no limit, where 0 expands to the numbers from 1 to `top`.
 fn plain(top: u64) -> Numbers {
@@ -79,11 +78,21 @@ fn check_statuses(
 fn roots_are_folded(rt: HostRuntime) -> Result<(), Fail> {
     let alloc = rt.alloc();
     let setup = problem(alloc, plain(5), [1, 2, 1, 3, 3].as_slice(), 10)?;
-    let events = vec![in alloc; root(0, Placed::Kept(0)), root(1, Placed::Kept(1)), root(2, Placed::Folded(1)), root(3, Placed::Kept(2)), root(4, Placed::Folded(2))]?;
+    let events = vec![in alloc;
+        root(0, Placed::Kept(0)),
+        root(1, Placed::Kept(1)),
+        root(2, Placed::Folded(1)),
+        root(3, Placed::Kept(2)),
+        root(4, Placed::Folded(2)),
+    ]?;
     let state = run(alloc, &setup, events)?;
     let wanted = [retired(1, 1, false), retired(2, 3, false), Status::Waiting];
     check_statuses(&rt, alloc, state, wanted.as_slice())?;
-    let events = vec![in alloc; root(0, Placed::Kept(0)), root(1, Placed::Kept(1)), root(2, Placed::Folded(0))]?;
+    let events = vec![in alloc;
+        root(0, Placed::Kept(0)),
+        root(1, Placed::Kept(1)),
+        root(2, Placed::Folded(0)),
+    ]?;
     let refused = run(alloc, &setup, events)?;
     assert!(rt; refused.is_none());
     Ok(())
@@ -98,7 +107,14 @@ fn children_retire_one_another(rt: HostRuntime) -> Result<(), Fail> {
         alloc,
         [Placed::Folded(3), Placed::Folded(3), Placed::Folded(3)].as_slice(),
     )?;
-    let events = vec![in alloc; root(0, Placed::Kept(0)), Event::Take { entry: 0 }, insert(0, 0, Placed::Kept(1)), insert(0, 1, Placed::Kept(2)), insert(0, 2, Placed::Kept(3)), insert(0, 0, Placed::Folded(3))]?;
+    let events = vec![in alloc;
+        root(0, Placed::Kept(0)),
+        Event::Take { entry: 0 },
+        insert(0, 0, Placed::Kept(1)),
+        insert(0, 1, Placed::Kept(2)),
+        insert(0, 2, Placed::Kept(3)),
+        insert(0, 0, Placed::Folded(3)),
+    ]?;
     let state = run(alloc, &setup, events)?;
     let wanted = [
         retired(1, 2, true),
@@ -107,7 +123,15 @@ fn children_retire_one_another(rt: HostRuntime) -> Result<(), Fail> {
         Status::Waiting,
     ];
     check_statuses(&rt, alloc, state, wanted.as_slice())?;
-    let events = vec![in alloc; root(0, Placed::Kept(0)), Event::Take { entry: 0 }, insert(0, 2, Placed::Kept(1)), Event::Finish { entry: 0, places: last }]?;
+    let events = vec![in alloc;
+        root(0, Placed::Kept(0)),
+        Event::Take { entry: 0 },
+        insert(0, 2, Placed::Kept(1)),
+        Event::Finish {
+            entry: 0,
+            places: last
+        },
+    ]?;
     let refused = run(alloc, &setup, events)?;
     assert!(rt; refused.is_none());
     Ok(())
@@ -126,7 +150,22 @@ fn expansions_interleave(rt: HostRuntime) -> Result<(), Fail> {
     ] {
         let one = places(alloc, [first].as_slice())?;
         let two = places(alloc, [Placed::Folded(2), second].as_slice())?;
-        let events = vec![in alloc; root(0, Placed::Kept(0)), root(1, Placed::Kept(1)), Event::Take { entry: 0 }, Event::Take { entry: 1 }, insert(0, 0, Placed::Folded(1)), insert(1, 0, Placed::Kept(2)), Event::Finish { entry: 0, places: one }, Event::Finish { entry: 1, places: two }]?;
+        let events = vec![in alloc;
+            root(0, Placed::Kept(0)),
+            root(1, Placed::Kept(1)),
+            Event::Take { entry: 0 },
+            Event::Take { entry: 1 },
+            insert(0, 0, Placed::Folded(1)),
+            insert(1, 0, Placed::Kept(2)),
+            Event::Finish {
+                entry: 0,
+                places: one
+            },
+            Event::Finish {
+                entry: 1,
+                places: two
+            },
+        ]?;
         let state = run(alloc, &setup, events)?;
         assert_eq!(rt; state.is_some(), allowed);
         if allowed {
@@ -157,14 +196,27 @@ fn searches_end(rt: HostRuntime) -> Result<(), Fail> {
         value: 12,
     };
     let setup = problem(alloc, rules, [0, 12].as_slice(), 2)?;
-    let events = vec![in alloc; root(0, Placed::Kept(0)), root(1, Placed::Kept(1)), Event::Take { entry: 0 }, Event::Take { entry: 1 }, Event::Halt { entry: 1, why }, insert(0, 14, Placed::Kept(2)), Event::Reset]?;
+    let events = vec![in alloc;
+        root(0, Placed::Kept(0)),
+        root(1, Placed::Kept(1)),
+        Event::Take { entry: 0 },
+        Event::Take { entry: 1 },
+        Event::Halt { entry: 1, why },
+        insert(0, 14, Placed::Kept(2)),
+        Event::Reset,
+    ]?;
     let state = run(alloc, &setup, events)?.expect(&rt, "the events are allowed");
     assert_eq!(rt; state.found(), Some(2));
     assert_eq!(rt; state.halted(), Some(why));
     assert_eq!(rt; state.finished(), 0);
     let wanted = [Status::Waiting, retired(2, 5, false), Status::Waiting];
     check_statuses(&rt, alloc, Some(state), wanted.as_slice())?;
-    let events = vec![in alloc; root(0, Placed::Kept(0)), Event::Take { entry: 0 }, insert(0, 14, Placed::Kept(1)), Event::Take { entry: 1 }]?;
+    let events = vec![in alloc;
+        root(0, Placed::Kept(0)),
+        Event::Take { entry: 0 },
+        insert(0, 14, Placed::Kept(1)),
+        Event::Take { entry: 1 },
+    ]?;
     let refused = run(alloc, &setup, events)?;
     assert!(rt; refused.is_none());
     Ok(())

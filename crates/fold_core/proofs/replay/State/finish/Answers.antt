@@ -1,6 +1,6 @@
-use Rattle.std.proofs.Common.{rules, arith, ◌≡◌, ◌<◌, ◌≤◌, length, ℕ, true, false, List, refl, subst, sym, ◌∙◌}
+use Rattle.std.proofs.Common.{rules, arith, length, true, refl, sym, ◌∙◌}
 use Rattle.fold_core.specs.Numbers.{numbers}
-use Rattle.fold_core.specs.Machine.{Core, Expanding}
+use Rattle.fold_core.specs.Machine.{Expanding}
 use Rattle.fold_core.specs.Replay.{RanAll}
 use Rattle.fold_core.proofs.Runs.{finish_ran, finish_stops, still_there, settles_length, ran_not}
 use Rattle.fold_core.proofs.Inversions.{step_says}
@@ -13,7 +13,7 @@ pub returns-then-len : goal.returns-then-len
 returns-then-len c =
     let x : Expanding (numbers c.args.problem.now.rules) c.args.entry c.in-Some.children c.args.self.now = (rw c.in-Some.is at c.in_ok-children.ensures.some) in
     finish_stops (numbers c.args.problem.now.rules) c.args.problem.now.roots c.args.before.now c.args.self.now c.args.self.now c.in-Some.children c.args.problem.now.budget c.args.entry c.args.places.now x
-      (λ other s. (let e = settles_length s in c.if-len.true (c.len.ensures ∙ e ∙ sym c.len-2.ensures)))
+    (λ other s. (let e = settles_length s in c.if-len.true (c.len.ensures ∙ e ∙ sym c.len-2.ensures)))
 
 pub close-requires-clause-within : goal.close-requires-clause-within
 close-requires-clause-within c =
@@ -33,4 +33,4 @@ returns c =
     let x : Expanding (numbers c.args.problem.now.rules) c.args.entry c.in-Some.children c.args.self.now = (rw c.in-Some.is at c.in_ok-children.ensures.some) in
     let ran : RanAll (numbers c.args.problem.now.rules) (length c.args.before.now) c.args.entry 0 c.in-Some.children c.args.places.now c.args.self.now true c.settle.new.self = search rules in
     finish_ran (numbers c.args.problem.now.rules) c.args.problem.now.roots c.args.before.now c.args.self.now c.settle.new.self c.close.new.self c.in-Some.children c.args.problem.now.budget _ c.args.entry c.args.places.now
-      refl x ran c.close.ensures
+    refl x ran c.close.ensures

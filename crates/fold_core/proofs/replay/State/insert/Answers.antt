@@ -1,6 +1,5 @@
-use Rattle.std.proofs.Common.{rules, ◌≡◌, ℕ, Some, refl, slice_get}
+use Rattle.std.proofs.Common.{rules, ◌≡◌, Some, refl, slice_get}
 use Rattle.fold_core.specs.Numbers.{numbers}
-use Rattle.fold_core.specs.Machine.{Core, Expanding, Stands}
 use Rattle.fold_core.proofs.Runs.{insert_ran, ran_not}
 use Rattle.fold_core.proofs.Inversions.{step_says}
 use Rattle.fold_core.proofs.replay.State.insert.Goals as goal
@@ -12,4 +11,4 @@ pub returns : goal.returns
 returns c =
     let at : slice_get c.in-Some.children c.args.child ≡ Some c.in-Some-get.item.now = search rules in
     insert_ran (numbers c.args.problem.now.rules) c.args.problem.now.roots c.args.before.now c.args.self.now c.place.new.self {children = c.in-Some.children} c.args.problem.now.budget _ c.args.parent c.args.child c.args.place _ c.place.result
-      refl (rw c.in-Some.is at c.in_ok-children.ensures.some) (record { is = at }) c.place.ensures
+    refl (rw c.in-Some.is at c.in_ok-children.ensures.some) (record { is = at }) c.place.ensures

@@ -1,7 +1,5 @@
-use Rattle.std.proofs.Common.{rules, arith, ◌≡◌, ◌<◌, ◌≤◌, length, ℕ, refl}
+use Rattle.std.proofs.Common.{rules, arith}
 use Rattle.fold_core.specs.declared.event.Placed.TheVariants.{Kept}
-use Rattle.fold_core.specs.Numbers.{numbers}
-use Rattle.fold_core.specs.Machine.{Core, Accepts}
 use Rattle.fold_core.proofs.Runs.{along_stop, along_next, along_end}
 use Rattle.fold_core.proofs.replay.State.settle.Goals as goal
 

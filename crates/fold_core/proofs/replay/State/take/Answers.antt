@@ -18,4 +18,4 @@ returns-in-Some c =
     let first : least_waiting c.self.inside.entries.items ≡ Some c.args.entry = search rules in
     let count : c.count_taken.result ≡ taken_count c.self.inside.entries.items = search rules in
     take_ran (numbers c.args.problem.now.rules) c.args.problem.now.roots c.args.before.now c.args.self.now v c.args.problem.now.budget _ c.args.entry c.args.entry c.set_status.new.entries.items
-      here found halted refl (omega (arith, count, c.if-count_taken-left.false)) first refl c.set_status.ensures
+    here found halted refl (omega (arith, count, c.if-count_taken-left.false)) first refl c.set_status.ensures
