@@ -81,11 +81,13 @@ same_overflow {r = r} {b = b} x y =
     let f = x.expands in
     cc
 
-pub reset_step : {I : Type 0} (r : Rules I) (roots : List I) (budget : ℕ) (before : List Event) (c v : Core I) (es : List (Entry I))
-    → v ≡ c → es ≡ map put_back_entry v.entries → Step r roots budget before c Reset (record v { entries = es })
-reset_step r roots budget before c v es here is =
-    subst (λ w. Step r roots budget before w Reset (record v { entries = es })) here
-    (subst (λ w. Step r roots budget before v Reset (record v { entries = w })) (sym is) reset)
+pub reset_ran : {I : Type 0} (r : Rules I) (roots : List I) (budget : ℕ) (before : List Event) (c v : Core I) (es : List (Entry I))
+    → v ≡ c → es ≡ map put_back_entry v.entries → Ran r roots budget before c Reset true (record v { entries = es })
+reset_ran r roots budget before c v es here is = record {
+  leads = λ q. subst (λ w. Step r roots budget before w Reset (record v { entries = es })) here
+      (subst (λ w. Step r roots budget before v Reset (record v { entries = w })) (sym is) reset);
+  refused = λ q. absurd (cc);
+}
 
 pub settles_length : {I : Type 0} {r : Rules I} {tick parent k : ℕ} {xs : List I} {ps : List Placed} {c d : Core I} → Settles r tick parent k xs ps c d → length xs ≡ length ps
 settles_length (settled k c) = refl

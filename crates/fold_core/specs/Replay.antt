@@ -3,8 +3,10 @@ use Rattle.std.specs.Prelude.{◌≡◌, ℕ, Bool, true, false, List}
 use Rattle.fold_core.specs.declared.event.Placed.{Placed}
 use Rattle.fold_core.specs.declared.event.Origin.{Origin}
 use Rattle.fold_core.specs.declared.event.Event.{Event}
+use Rattle.fold_core.specs.declared.replay.Problem.{Problem}
 use Rattle.fold_core.specs.Rules.{Rules}
-use Rattle.fold_core.specs.Machine.{Entry, Core, Stands, is_taken, placed, place_of, Settles, Step}
+use Rattle.fold_core.specs.Numbers.{numbers}
+use Rattle.fold_core.specs.Machine.{Entry, Core, Stands, is_taken, placed, place_of, Settles, Step, After}
 
 -- Entry n is taken, and its item is x.
 pub record TakenItem {I : Type 0} (c : Core I) (n : ℕ) (x : I) : Type 0 where
@@ -29,3 +31,11 @@ pub record Puts {I : Type 0} (r : Rules I) (tick : ℕ) (x : I) (origin : Origin
   pub place : allowed ≡ true → p ≡ place_of r x c
   pub leads : allowed ≡ true → d ≡ placed r tick x origin p c
   pub refused : allowed ≡ false → p ≡ place_of r x c → ⊥
+
+-- The same in a search over numbers that begins so.
+abbrev pub RanIn : Problem → List Event → Core ℕ → Event → Bool → Core ℕ → Type 0
+RanIn p before c event allowed d = Ran (numbers p.rules) p.roots p.budget before c event allowed d
+
+-- In a search over numbers that begins so, these events are allowed and lead to the state.
+abbrev pub AfterIn : Problem → List Event → Core ℕ → Type 0
+AfterIn p events c = After (numbers p.rules) p.roots p.budget events c

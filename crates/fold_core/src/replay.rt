@@ -6,8 +6,8 @@ ghost use Rattle.std.specs.Option.{option_copied};
 ghost use Rattle.fold_core.specs.declared.event.Status.TheVariants.{Waiting};
 ghost use Rattle.fold_core.specs.declared.event.Event.TheVariants.{Root, Take, Insert, Finish, Halt, Reset};
 ghost use Rattle.fold_core.specs.Numbers.{numbers};
-ghost use Rattle.fold_core.specs.Machine.{Entry, Core, Stands, LiveCover, empty, is_live, is_taken, least_cover, least_waiting, taken_count, overtaken, kept, placed, place_of, Accepts, Expanding, Overflowing, let_go, put_back_entry, roots_placed, Step, After};
-ghost use Rattle.fold_core.specs.Replay.{TakenItem, Ran, RanAll, Puts};
+ghost use Rattle.fold_core.specs.Machine.{Entry, Core, Stands, LiveCover, empty, is_live, is_taken, least_cover, least_waiting, taken_count, overtaken, kept, placed, place_of, Accepts, Expanding, Overflowing, let_go, put_back_entry, roots_placed};
+ghost use Rattle.fold_core.specs.Replay.{TakenItem, RanIn, RanAll, Puts, AfterIn};
 
 use crate::error::{ExpandFail, Large, NoMemory};
 use crate::event::{Event, Events, Origin, Placed, PlacedList, Status};
@@ -157,7 +157,8 @@ fn count_taken(entries: &[Kept]) -> usize
 /// Gives entry `number` the status.
 fn set_status(entries: &mut Vec<Kept>, number: u32, status: Status)
     requires { number < length entries.old.items }
-    ensures { (e : Entry ℕ) → Stands entries.old.items number e → entries.new.items ≡ slice_set entries.old.items number (record e { status = status }) }
+    ensures { (e : Entry ℕ) → Stands entries.old.items number e
+        → entries.new.items ≡ slice_set entries.old.items number (record e { status = status }) }
 {
     let kept = &entries[number as usize];
     let turned = Kept {
@@ -223,7 +224,8 @@ fn with_kept(
     to: u32,
     tick: u64,
 ) -> Result<Vec<Kept>, NoMemory>
-    ensures { IfOk result (λ next. next.items ≡ map (overtaken (numbers rules.now) item to tick) entries.now ++ record { item = item; origin = origin; status = Waiting } ∷ []) }
+    ensures { IfOk result (λ next. next.items ≡ map (overtaken (numbers rules.now) item to tick) entries.now
+        ++ record { item = item; origin = origin; status = Waiting } ∷ []) }
 {
     let mut next = Vec::new(alloc);
     for kept in entries {
@@ -432,7 +434,7 @@ impl State {
         place: Placed,
     ) -> Result<bool, NoMemory>
         requires { placed ≡ roots_placed before.now }
-        ensures { IfOk result (λ b. Ran (numbers problem.now.rules) problem.now.roots problem.now.budget before.now self.old (Root number place) b self.new) }
+        ensures { IfOk result (λ b. RanIn problem.now before.now self.old (Root number place) b self.new) }
     {
         if number as usize != placed || placed != before.len() {
             return Ok(false);
@@ -454,7 +456,7 @@ impl State {
     /// Entry `entry` is taken.
     fn take(&mut self, problem: &Problem, before: &[Event], entry: u32) -> bool
         requires { self.old.finished ≤ problem.now.budget }
-        ensures { Ran (numbers problem.now.rules) problem.now.roots problem.now.budget before.now self.old (Take entry) result self.new }
+        ensures { RanIn problem.now before.now self.old (Take entry) result self.new }
     {
         if self.found.is_some() || self.halted.is_some() {
             return false;
@@ -482,7 +484,7 @@ impl State {
         child: u64,
         place: Placed,
     ) -> Result<bool, NoMemory>
-        ensures { IfOk result (λ b. Ran (numbers problem.now.rules) problem.now.roots problem.now.budget before.now self.old (Insert parent child place) b self.new) }
+        ensures { IfOk result (λ b. RanIn problem.now before.now self.old (Insert parent child place) b self.new) }
     {
         let Some(children) = self.children(alloc, &problem.rules, parent)? else {
             return Ok(false);
@@ -510,7 +512,7 @@ impl State {
         entry: u32,
         why: Large,
     ) -> Result<bool, NoMemory>
-        ensures { IfOk result (λ b. Ran (numbers problem.now.rules) problem.now.roots problem.now.budget before.now self.old (Halt entry why) b self.new) }
+        ensures { IfOk result (λ b. RanIn problem.now before.now self.old (Halt entry why) b self.new) }
     {
         if self.halted.is_some() {
             return Ok(false);
@@ -527,7 +529,7 @@ impl State {
 
     /// What is taken waits again.
     fn reset(&mut self, alloc: Global, problem: &Problem, before: &[Event]) -> Result<(), NoMemory>
-        ensures { OnOk result (Step (numbers problem.now.rules) problem.now.roots problem.now.budget before.now self.old Reset self.new) }
+        ensures { OnOk result (RanIn problem.now before.now self.old Reset true self.new) }
     {
         let entries = all_put_back(alloc, self.entries.as_slice())?;
         self.entries = entries;
@@ -566,7 +568,10 @@ impl State {
     fn close(&mut self, budget: u32, entry: u32)
         requires within { entry < length self.old.entries }
         requires few { self.old.finished ≤ budget }
-        ensures { (e : Entry ℕ) → Stands self.old.entries entry e → self.new ≡ record self.old { entries = slice_set self.old.entries entry (record e { status = let_go e.status }); finished = self.old.finished + 1 } }
+        ensures { (e : Entry ℕ) → Stands self.old.entries entry e → self.new ≡ record self.old {
+          entries = slice_set self.old.entries entry (record e { status = let_go e.status });
+          finished = self.old.finished + 1;
+        } }
     {
         let status = let_go(self.entries[entry as usize].status);
         set_status(&mut self.entries, entry, status);
@@ -583,7 +588,7 @@ impl State {
         places: &PlacedList,
     ) -> Result<bool, NoMemory>
         requires { self.old.finished ≤ problem.now.budget }
-        ensures { IfOk result (λ b. Ran (numbers problem.now.rules) problem.now.roots problem.now.budget before.now self.old (Finish entry places.now) b self.new) }
+        ensures { IfOk result (λ b. RanIn problem.now before.now self.old (Finish entry places.now) b self.new) }
     {
         let Some(children) = self.children(alloc, &problem.rules, entry)? else {
             return Ok(false);
@@ -618,7 +623,7 @@ impl State {
     ) -> Result<bool, NoMemory>
         requires roots { placed ≡ roots_placed before.now }
         requires in_budget { self.old.finished ≤ problem.now.budget }
-        ensures { IfOk result (λ b. Ran (numbers problem.now.rules) problem.now.roots problem.now.budget before.now self.old event.now b self.new) }
+        ensures { IfOk result (λ b. RanIn problem.now before.now self.old event.now b self.new) }
     {
         match event {
             Event::Root {
@@ -643,8 +648,8 @@ impl State {
 
 /// The state that the history leads to, or `None` exactly where an event in it isn't allowed.
 pub fn after(alloc: Global, problem: &Problem, events: &Events) -> Result<Option<State>, NoMemory>
-    ensures reached { IfOk result (λ o. IfSome o (λ c. After (numbers problem.now.rules) problem.now.roots problem.now.budget events.now c)) }
-    ensures refused { IfOk result (λ o. IfNone o ((c : Core ℕ) → After (numbers problem.now.rules) problem.now.roots problem.now.budget events.now c → ⊥)) }
+    ensures reached { IfOk result (λ o. IfSome o (λ c. AfterIn problem.now events.now c)) }
+    ensures refused { IfOk result (λ o. IfNone o ((c : Core ℕ) → AfterIn problem.now events.now c → ⊥)) }
 {
     let events = events.as_slice();
     let mut state = State::new(alloc);
