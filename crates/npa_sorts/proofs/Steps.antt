@@ -1,8 +1,8 @@
 -- The order of sorts, and what one more pair adds to it.
-use Rattle.std.proofs.Common.{◌≡◌, ◌≢◌, ℕ, zero, suc, ◌+◌, ◌<◌, ◌≤◌, Bool, true, false, nat_eq, ◌||◌, List, [], ◌∷◌, ◌++◌, length, get_or, take, position, Option, Some, None, refl, sym, ◌∙◌, ap, subst, inl, inr, arith}
+use Rattle.std.proofs.Common.{◌≡◌, ◌≢◌, ℕ, zero, suc, ◌+◌, ◌<◌, ◌≤◌, true, false, List, [], ◌∷◌, length, get_or, position, Some, None, refl, sym, ◌∙◌, ap, subst, inl, inr, arith}
 use Rattle.std.proofs.lemmas.Iterator.Adapters.{position_from-zero}
 use Rattle.std.specs.List.{position_from}
-use Rattle.std.specs.Prelude.{cond, Contains, All, ◌⊎◌, ◌↔◌}
+use Rattle.std.specs.Prelude.{cond, Contains, ◌⊎◌}
 use Rattle.std.proofs.lemmas.List.Elements.{Contains-append_left, Contains-append_right, Contains-append_cases}
 use Rattle.npa_sorts.specs.Table.{with_pair}
 use Rattle.npa_sorts.specs.Subsorts.{Subsorts, IsSort, IsStep, pair, to_msg, IsBelow, step, climb, IsAtOrBelow, names_fresh, AreSorts}
@@ -127,3 +127,12 @@ fresh_not_below none (climb s t u p q) = ((no_fresh_step none p).0, (fresh_not_b
 pub at_or_below_sort : (o : Subsorts) (s t : ℕ) → AreSorts o → IsAtOrBelow o s t → IsSort o t → IsSort o s
 at_or_below_sort o s t sorts (inl e) high = subst (IsSort o) (sym e) high
 at_or_below_sort o s t sorts (inr p) high = below_lower sorts p
+
+-- the laws of an order without cycles
+
+pub at_or_below_antisym : (o : Subsorts) → ((s : ℕ) → IsBelow o s s → ⊥) → (s t : ℕ) → IsAtOrBelow o s t → IsAtOrBelow o t s → s ≡ t
+at_or_below_antisym o acyclic s t (inl e) q = e
+at_or_below_antisym o acyclic s t (inr p) q = absurd (acyclic s (below_at_or_below p q))
+
+pub declared_below_msg : (o : Subsorts) (s : ℕ) → 2 ≤ s → IsSort o s → IsAtOrBelow o s 0
+declared_below_msg o s low high = inr (step s 0 (to_msg s low high))

@@ -7,3 +7,6 @@ mod table;
 
 pub use error::{NoMemory, SortFail};
 pub use sorts::{FRESH, MSG, SortNums, SortPair, SortPairs, Sorts};
+
+#[cfg(test)]
+mod tests;

@@ -81,9 +81,23 @@ impl Sorts {
     pub fn pairs(&self) -> &SortPairs
         ensures value { result.now ≡ self.now.pairs }
         ensures sorts { AreSorts self.now }
-        ensures order { (s : ℕ) → IsBelow self.now s s → ⊥ }
+        ensures apart { position names_fresh self.now.pairs ≡ None }
     {
         &self.pairs
+    }
+
+    /// Does nothing: its clauses are the laws of the order, for the proofs of the crates above.
+    /// It is a partial order of the sorts, `Msg` is above each declared sort, and `Fresh` stands
+    /// alone.
+    pub fn laws(&self)
+        ensures transitive { (s t u : ℕ) → IsAtOrBelow self.now s t → IsAtOrBelow self.now t u → IsAtOrBelow self.now s u }
+        ensures antisymmetric { (s t : ℕ) → IsAtOrBelow self.now s t → IsAtOrBelow self.now t s → s ≡ t }
+        ensures acyclic { (s : ℕ) → IsBelow self.now s s → ⊥ }
+        ensures lower { (s t : ℕ) → IsAtOrBelow self.now s t → IsSort self.now t → IsSort self.now s }
+        ensures msg { (s : ℕ) → 2 ≤ s → IsSort self.now s → IsAtOrBelow self.now s MSG }
+        ensures fresh { (s t : ℕ) → IsBelow self.now s t → (s ≢ FRESH) × (t ≢ FRESH) }
+    {
+        let _below = &self.below;
     }
 
     /// Whether the first sort is at or below the second.

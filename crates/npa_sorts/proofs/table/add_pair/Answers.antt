@@ -1,4 +1,4 @@
-use Rattle.std.proofs.Common.{◌≡◌, ◌<◌, true, List, length, set, vec_len, ap, subst, sym, ◌∙◌, arith}
+use Rattle.std.proofs.Common.{◌≡◌, true, length, set, vec_len, ap, subst, sym, ◌∙◌, arith}
 use Rattle.std.proofs.lemmas.List.{length-set}
 use Rattle.npa_sorts.specs.Table.{rows_of, entry, IsSquare}
 use Rattle.npa_sorts.proofs.TableLemmas.{row_long, known, added}

@@ -1,4 +1,4 @@
-use Rattle.std.proofs.Common.{◌≡◌, ◌<◌, false, length, get_or, sym, ◌∙◌, vec_len, arith}
+use Rattle.std.proofs.Common.{◌≡◌, ◌<◌, false, length, sym, ◌∙◌, vec_len, arith}
 use Rattle.std.proofs.lemmas.List.{get_or_default}
 use Rattle.npa_sorts.proofs.TableLemmas.{row_long, entry_at}
 use Rattle.npa_sorts.proofs.table.cell.Goals as goal

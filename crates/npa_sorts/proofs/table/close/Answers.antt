@@ -1,4 +1,3 @@
-use Rattle.npa_sorts.specs.Subsorts.{Subsorts}
 use Rattle.npa_sorts.proofs.TableLemmas.{table_taken}
 use Rattle.npa_sorts.proofs.table.close.Goals as goal
 

@@ -1,4 +1,4 @@
-use Rattle.std.proofs.Common.{◌≡◌, ◌+◌, ℕ, ◌<◌, length, subst, sym, ◌∙◌, arith}
+use Rattle.std.proofs.Common.{◌≡◌, ◌+◌, ◌∙◌, arith}
 use Rattle.npa_sorts.proofs.TableLemmas.{bare_table, length-rows_of}
 use Rattle.npa_sorts.proofs.table.start.Goals as goal
 
