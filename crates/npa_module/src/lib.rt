@@ -1,0 +1,14 @@
+//! Module texts.
+#![tactic(auto)]
+
+mod aims;
+mod draft;
+mod operators;
+mod reader;
+mod source;
+mod strands;
+mod terms;
+mod trees;
+
+pub use reader::read;
+pub use source::{ReadError, Source};

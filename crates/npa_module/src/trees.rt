@@ -1,0 +1,80 @@
+ghost use Rattle.std.specs.Prelude.{◌≡◌, IfOk};
+ghost use Rattle.npa_module.specs.Trees.{all_with, listed, has, below, word_at, word_of, kind_of, seen};
+
+use npa_syntax::{Node, child_of};
+use npa_text::{Tokens, token_at, token_text};
+use std::alloc::{AllocError, Global};
+
+// The nodes for a nonterminal, in order.
+#[tactic(auto, using(crate::proofs::Walks::all_with_step))]
+pub(crate) fn all_with<'a>(
+    alloc: Global,
+    symbol: u8,
+    nodes: &'a [Node],
+) -> Result<Vec<&'a Node>, AllocError>
+    ensures { IfOk result (λ found. seen found.items ≡ all_with symbol nodes.now) }
+{
+    let mut found = Vec::new(alloc);
+    for node in nodes {
+        if node.symbol == symbol {
+            found.push(node)?;
+        }
+    }
+    Ok(found)
+}
+
+// The nodes for a nonterminal, in order, where the further ones stand below nodes of their own.
+#[tactic(auto, using(crate::proofs::Walks::listed_step))]
+pub(crate) fn listed<'a>(
+    alloc: Global,
+    symbol: u8,
+    next: u8,
+    nodes: &'a [Node],
+) -> Result<Vec<&'a Node>, AllocError>
+    ensures { IfOk result (λ found. seen found.items ≡ listed symbol next nodes.now) }
+{
+    let mut found = Vec::new(alloc);
+    for node in nodes {
+        if node.symbol == symbol {
+            found.push(node)?;
+        } else if node.symbol == next {
+            let mut further = all_with(alloc, symbol, node.children.as_slice())?;
+            found.append(&mut further)?;
+        }
+    }
+    Ok(found)
+}
+
+// Whether there is a node for a nonterminal.
+pub(crate) fn has(symbol: u8, nodes: &[Node]) -> bool
+    ensures { result ≡ has symbol nodes.now }
+{
+    child_of(nodes, symbol).is_some()
+}
+
+// The children of the first node for a nonterminal.
+pub(crate) fn below(symbol: u8, nodes: &[Node]) -> &[Node]
+    ensures { result.now ≡ below symbol nodes.now }
+{
+    match child_of(nodes, symbol) {
+        Some(node) => node.children.as_slice(),
+        None => &[],
+    }
+}
+
+// The word with which a node begins.
+pub(crate) fn word_at<'a>(bytes: &'a [u8], tokens: &Tokens, node: &Node) -> &'a [u8]
+    ensures { result.now ≡ word_at bytes.now tokens.now node.now }
+{
+    token_text(bytes, token_at(tokens, node))
+}
+
+// The word with which the first node for a nonterminal begins.
+pub(crate) fn word_of<'a>(bytes: &'a [u8], tokens: &Tokens, symbol: u8, nodes: &[Node]) -> &'a [u8]
+    ensures { result.now ≡ word_of bytes.now tokens.now symbol nodes.now }
+{
+    match child_of(nodes, symbol) {
+        Some(node) => word_at(bytes, tokens, node),
+        None => &[],
+    }
+}
