@@ -1,6 +1,7 @@
 -- The term at the front of the tokens that are left.
 use Rattle.std.proofs.Common.{◌≡◌, ℕ, zero, suc, ◌+◌, ◌-◌, ◌<◌, ◌≤◌, true, List, [], ◌∷◌, length, drop, get_or, Some, None, Err, refl, sym, ap, ◌∙◌, subst, take-append-drop, arith, length-drop}
 use Rattle.std.specs.Prelude.{take}
+use Rattle.std.proofs.lemmas.List.{drop-drop}
 use Rattle.npa_syntax.specs.declared.node.Terminal.{Terminal}
 use Rattle.npa_syntax.specs.declared.node.Node.{Node}
 use Rattle.npa_syntax.specs.declared.fault.ReadFault.{ReadFault}
@@ -32,12 +33,6 @@ unfolding term_language
 one_tree ts nodes d =
     let t = needed_piece (piece 1200 (one TERM)) [] d refl in
     (t.node, t.all ∙ ap (λ ns. t.node ∷ ns) (no_pieces t.others refl))
-
-drop_further : (from n : ℕ) (ts : List Token) → drop (from + n) ts ≡ drop n (drop from ts)
-drop_further zero n ts = let e : 0 + n ≡ n = omega arith in ap (λ m. drop m ts) e
-drop_further (suc from) zero [] = let e : suc from + 0 ≡ suc from = omega arith in ap (λ (m : ℕ). drop {A = Token} m []) e
-drop_further (suc from) (suc n) [] = let e : suc from + suc n ≡ suc (from + suc n) = omega arith in ap (λ (m : ℕ). drop {A = Token} m []) e
-drop_further (suc from) n (t ∷ ts) = let e : suc from + n ≡ suc (from + n) = omega arith in ap (λ m. drop m (t ∷ ts)) e ∙ drop_further from n ts
 
 -- ## What the reader of a term answers: `given` are the tokens and `terminals` those of the tokens from
 -- a place on
@@ -74,7 +69,7 @@ module _ (l : Language) (bytes : List ℕ) (tokens given : List Token) (from : �
       → PlacesTermFault bytes tokens from (Err fault)
   term_fault e n fault f syntax at =
       let found : FaultAt l terminals n = subst (λ (x : ReadFault). PlacesFault {A = List Node × ℕ} l terminals (Err x)) syntax f in
-      let left : drop (from + n) given ≡ drop n (drop from tokens) = drop_further from n given ∙ ap (λ ts. drop n (drop from ts)) same in
+      let left : drop (from + n) given ≡ drop n (drop from tokens) = sym (drop-drop n from given) ∙ ap (λ ts. drop n (drop from ts)) same in
       let there : fault ≡ Syntax (place_at bytes (drop n (drop from tokens)) None).line (place_at bytes (drop n (drop from tokens)) None).col =
       at ∙ ap (λ ts. Syntax (place_at bytes ts None).line (place_at bytes ts None).col) left in
       subst (λ (x : TextFault). PlacesTermFault bytes tokens from (Err x)) (sym there) (record {
