@@ -37,4 +37,6 @@ pub use token::{Kind, Lexed, MOST_BYTES, Raw, Raws, Token, Tokens, number_of, to
 pub use words::{terminal_kind, word_kind};
 
 #[cfg(test)]
+mod parser_tests;
+#[cfg(test)]
 mod tests;
