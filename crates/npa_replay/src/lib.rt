@@ -9,3 +9,6 @@ mod replaying;
 
 pub use answer::Replay;
 pub use replaying::replay;
+
+#[cfg(test)]
+mod tests;
