@@ -1,9 +1,8 @@
 -- Aims, and the runs that reach them (attack patterns: Escobar, Meadows, Meseguer 2009).
-use Rattle.std.specs.Prelude.{◌≡◌, ℕ, ◌+◌, ◌<◌, ◌≤◌, Bool, true, false, List, [], ◌∷◌, ◌++◌, Option, Some, map, length, slice_get, take, Contains}
+use Rattle.std.specs.Prelude.{◌≡◌, ℕ, ◌<◌, ◌≤◌, true, List, [], ◌∷◌, Some, map, length, slice_get, take, Contains}
 use Rattle.npa_term.specs.declared.term.Term.{Term}
 use Rattle.npa_term.specs.Variables.{IsGround}
 use Rattle.npa_term.specs.Canonical.{canonical}
-use Rattle.npa_sig.specs.declared.protocol.Strand.{Strand}
 use Rattle.npa_sig.specs.declared.protocol.Protocol.{Protocol}
 use Rattle.npa_sig.specs.Signature.{Signature}
 use Rattle.npa_sig.specs.Sorting.{sort_of, all_below}

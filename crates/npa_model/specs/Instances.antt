@@ -28,6 +28,10 @@ pub record IsInstance (nf : Term → Term) (sig : Signature) (strands : List Str
   pub sorts : all_below sig (map sort_of instance.args) (param_sorts strand) ≡ true
   pub normal : (t : Term) → Contains instance.args t → IsGround t × (nf t ≡ canonical t)
 
+-- each term of each instance is ground
+abbrev pub AreGround : List Instance → Type 0
+AreGround instances = (k : ℕ) (instance : Instance) → slice_get instances k ≡ Some instance → (t : Term) → Contains instance.args t → IsGround t
+
 abbrev pub name_in : Term → List ℕ
 name_in (Var v) = []
 name_in (Name n) = n ∷ []

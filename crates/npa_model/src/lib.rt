@@ -3,6 +3,7 @@
 #![tactic(auto)]
 
 mod aim;
+mod laws;
 mod run;
 mod sent;
 mod start;
@@ -10,6 +11,7 @@ mod state;
 mod values;
 
 pub use aim::{Aim, Aims, Part, Parts};
+pub use laws::{break_laws, execution_laws, instance_laws, outcome_laws};
 pub use run::{Cause, Instance, Instances, Places, Run, RunFail};
 pub use state::{RunState, step_run};
 pub use values::message;

@@ -1,0 +1,9 @@
+use Rattle.npa_model.proofs.InstanceLaws.{apart_exactly, instances_start, starting_instances}
+use Rattle.npa_model.proofs.laws.instance_laws.Goals as goal
+
+pub returns : goal.returns
+returns c = record {
+  apart = apart_exactly;
+  faultless = λ nf sig strands instances are. instances_start sig strands instances nf are;
+  instances = starting_instances;
+}

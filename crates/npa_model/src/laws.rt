@@ -1,0 +1,44 @@
+//! Laws of runs. Each function does nothing: its clauses are the laws, for the proofs of the
+//! crates above.
+
+ghost use Rattle.std.specs.Prelude.{◌≡◌, ◌↔◌, ℕ, [], None, List, Result};
+ghost use Rattle.npa_term.specs.declared.term.Term.{Term};
+ghost use Rattle.npa_term.specs.Canonical.{canonical};
+ghost use Rattle.npa_sig.specs.declared.protocol.Strand.{Strand};
+ghost use Rattle.npa_sig.specs.declared.protocol.Protocol.{Protocol};
+ghost use Rattle.npa_sig.specs.Signature.{Signature};
+ghost use Rattle.npa_model.specs.declared.aim.Aim.{Aim};
+ghost use Rattle.npa_model.specs.declared.run.Instance.{Instance};
+ghost use Rattle.npa_model.specs.declared.run.Run.{Run};
+ghost use Rattle.npa_model.specs.declared.run.Cause.{Cause};
+ghost use Rattle.npa_model.specs.Runs.{Happens, Executes, BreaksAt};
+ghost use Rattle.npa_model.specs.Instances.{AreApart, AreGround, AreInstances, first_again, start_fault};
+ghost use Rattle.npa_model.specs.Aims.{IsRun, Reaches, Misses, Breaks};
+
+/// A step has one outcome, and a schedule that is executed sends one list of terms.
+pub fn execution_laws()
+    ensures one_outcome { (nf : Term → Term) (strands : List Strand) (instances : List Instance) (done : ℕ) (sent : List Term) (i : ℕ) (r s : Result (List Term) Cause) → Happens nf strands instances done sent i r → Happens nf strands instances done sent i s → r ≡ s }
+    ensures one_list { (nf : Term → Term) (strands : List Strand) (instances : List Instance) (schedule : List ℕ) (sent told : List Term) → Executes nf strands instances schedule sent → Executes nf strands instances schedule told → sent ≡ told }
+{}
+
+/// A schedule breaks at one step at most, for one cause, and not where it is executed whole.
+pub fn break_laws()
+    ensures one_break { (nf : Term → Term) (strands : List Strand) (instances : List Instance) (schedule : List ℕ) (j k : ℕ) (why because : Cause) → BreaksAt nf strands instances schedule j why → BreaksAt nf strands instances schedule k because → (j ≡ k) × (why ≡ because) }
+    ensures whole { (nf : Term → Term) (strands : List Strand) (instances : List Instance) (schedule : List ℕ) (sent : List Term) (j : ℕ) (why : Cause) → Executes nf strands instances schedule sent → BreaksAt nf strands instances schedule j why → ⊥ }
+{}
+
+/// A run begins with its instances where these have no fault, and only there.
+pub fn instance_laws()
+    ensures apart { (names : List ℕ) → AreApart names ↔ (first_again [] names ≡ None) }
+    ensures faultless { (nf : Term → Term) (sig : Signature) (strands : List Strand) (instances : List Instance) → AreInstances nf sig strands instances → start_fault sig strands instances ≡ None }
+    ensures instances { (sig : Signature) (strands : List Strand) (instances : List Instance) → AreGround instances → start_fault sig strands instances ≡ None → AreInstances canonical sig strands instances }
+{}
+
+/// A run reaches an aim, breaks or misses a part, and no two of these. It breaks at one step, for
+/// one cause, and misses one part.
+pub fn outcome_laws()
+    ensures runs_or_breaks { (nf : Term → Term) (protocol : Protocol) (run : Run) (sent : List Term) (j : ℕ) (why : Cause) → IsRun nf protocol run sent → Breaks nf protocol run j why → ⊥ }
+    ensures reaches_or_misses { (nf : Term → Term) (protocol : Protocol) (aim : Aim) (run : Run) (k : ℕ) → Reaches nf protocol aim run → Misses nf protocol aim run k → ⊥ }
+    ensures breaks_once { (nf : Term → Term) (protocol : Protocol) (run : Run) (j k : ℕ) (why because : Cause) → Breaks nf protocol run j why → Breaks nf protocol run k because → (j ≡ k) × (why ≡ because) }
+    ensures misses_once { (nf : Term → Term) (protocol : Protocol) (aim : Aim) (run : Run) (j k : ℕ) → Misses nf protocol aim run j → Misses nf protocol aim run k → j ≡ k }
+{}

@@ -1,0 +1,34 @@
+-- What the answer of a replay says.
+use Rattle.std.specs.Prelude.{◌≡◌, ℕ, List, Some, Result, Ok, Err, slice_get}
+use Rattle.npa_term.specs.declared.error.NoMemory.{NoMemory}
+use Rattle.npa_term.specs.declared.term.Term.{Term}
+use Rattle.npa_sig.specs.declared.protocol.Protocol.{Protocol}
+use Rattle.npa_model.specs.declared.aim.Aim.{Aim}
+use Rattle.npa_model.specs.declared.aim.Part.{Part}
+use Rattle.npa_model.specs.declared.aim.Part.TheVariants as part
+use Rattle.npa_model.specs.declared.run.Run.{Run}
+use Rattle.npa_model.specs.Aims.{Reaches, Breaks, Misses}
+use Rattle.npa_replay.specs.declared.execution.Halt.{Halt}
+use Rattle.npa_replay.specs.declared.execution.Halt.TheVariants as halt
+use Rattle.npa_replay.specs.declared.answer.Replay.{Replay}
+use Rattle.npa_replay.specs.declared.answer.Replay.TheVariants as replay
+
+-- An answer is true of a run where the run reaches the aim, breaks at this step for this cause, or
+-- misses this part (reachability of attack patterns: Escobar, Meadows, Meseguer 2009).
+abbrev pub IsTrueOf : (Term → Term) → Protocol → Aim → Run → Replay → Type 0
+IsTrueOf nf protocol aim run replay.Reaches = Reaches nf protocol aim run
+IsTrueOf nf protocol aim run (replay.Stops j why) = Breaks nf protocol run j why
+IsTrueOf nf protocol aim run (replay.Misses k) = Misses nf protocol aim run k
+
+-- the part is a term that is to be sent
+abbrev pub IsKnown : Part → Type 0
+IsKnown (part.Known t) = Unit {0}
+IsKnown (part.Strand strand bar args) = ⊥
+
+abbrev pub AreKnown : List Part → Type 0
+AreKnown parts = (k : ℕ) (p : Part) → slice_get parts k ≡ Some p → IsKnown p
+
+-- the answer about a run that breaks: the step and the cause
+abbrev pub Stops : Halt → Result Replay NoMemory → Type 0
+Stops (halt.Break j why) answer = answer ≡ Ok (replay.Stops j why)
+Stops halt.NoMemory answer = (e : NoMemory) × (answer ≡ Err e)

@@ -1,0 +1,75 @@
+ghost use Rattle.std.specs.Prelude.{◌≡◌, ◌<◌, ◌^◌, ℕ, [], Some, length, slice_get};
+ghost use Rattle.npa_term.specs.Canonical.{canonical};
+ghost use Rattle.npa_sig.specs.declared.protocol.Strand.{Strand};
+ghost use Rattle.npa_model.specs.State.{AreCountable};
+ghost use Rattle.npa_model.specs.Instances.{AreGround, param_sorts};
+ghost use Rattle.npa_replay.specs.Executions.{IsAfter, Ends, RunsThrough, halted};
+
+use npa_model::{Cause, Instances, Run, RunFail, RunState, step_run};
+use npa_sig::Protocol;
+use std::alloc::Global;
+
+/// Why a run wasn't executed to its end.
+#[derive(Debug, Drop)]
+pub(crate) enum Halt {
+    /// The run breaks at this step, counted from 1; step 0 is the list of instances.
+    Break(u32, Cause),
+    NoMemory,
+}
+
+/// Begins the run and executes its schedule: the state in which it ends.
+pub(crate) fn run_through(alloc: Global, protocol: &Protocol, run: &Run) -> Result<RunState, Halt>
+    requires ground { AreGround run.now.instances }
+    requires few_instances { length run.now.instances < 2 ^ 32 }
+    requires few_steps { length run.now.schedule < 2 ^ 32 }
+    requires params { (k : ℕ) (strand : Strand) → slice_get protocol.now.strands k ≡ Some strand → length (param_sorts strand) < 2 ^ 16 }
+    requires countable { AreCountable protocol.now.strands }
+    ensures { RunsThrough canonical protocol.now run.now result }
+{
+    let mut state = match RunState::start(alloc, protocol, &run.instances) {
+        Ok(state) => state,
+        Err(fail) => return Err(halted(0, fail)),
+    };
+    match execute(
+        alloc,
+        protocol,
+        &run.instances,
+        run.schedule.as_slice(),
+        &mut state,
+    ) {
+        Ok(()) => Ok(state),
+        Err(halt) => Err(halt),
+    }
+}
+
+// Executes the schedule step by step.
+fn execute(
+    alloc: Global,
+    protocol: &Protocol,
+    instances: &Instances,
+    schedule: &[u32],
+    state: &mut RunState,
+) -> Result<(), Halt>
+    requires begun { IsAfter canonical protocol.now.strands instances.now [] state.old }
+    requires few { length schedule.now < 2 ^ 32 }
+    requires countable { AreCountable protocol.now.strands }
+    ensures { Ends canonical protocol.now.strands instances.now schedule.now state.new result }
+{
+    for k in 0..schedule.len() {
+        match step_run(alloc, protocol, instances, state, schedule[k]) {
+            Ok(()) => {}
+            Err(fail) => return Err(halted(k as u32 + 1, fail)),
+        }
+    }
+    Ok(())
+}
+
+// The failure at a step.
+fn halted(step: u32, fail: RunFail) -> Halt
+    ensures { result ≡ halted step fail }
+{
+    match fail {
+        RunFail::Stop(cause) => Halt::Break(step, cause),
+        RunFail::NoMemory => Halt::NoMemory,
+    }
+}
