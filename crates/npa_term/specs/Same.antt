@@ -10,10 +10,12 @@ mutual
   pub data Same : Term → Term → Type 0 where
     itself : (t : Term) → Same t t
     through : (s t u : Term) → Same s t → Same t u → Same s u
-    swapped : (op : Op) (t u : Term) → op.com ≡ true → Same (App op (t ∷ u ∷ [])) (App op (u ∷ t ∷ []))
+    swapped : (op : Op) (t u : Term) → op.com ≡ true →
+        Same (App op (t ∷ u ∷ [])) (App op (u ∷ t ∷ []))
     below : (op : Op) (ts us : List Term) → SameAll ts us → Same (App op ts) (App op us)
 
   -- Lists of as many terms, equal place by place.
   pub data SameAll : List Term → List Term → Type 0 where
     nothing : SameAll [] []
-    first : (t u : Term) (ts us : List Term) → Same t u → SameAll ts us → SameAll (t ∷ ts) (u ∷ us)
+    first : (t u : Term) (ts us : List Term) → Same t u → SameAll ts us →
+        SameAll (t ∷ ts) (u ∷ us)

@@ -19,7 +19,8 @@ ghost use Rattle.npa_term.specs.Variables.{IsGround};
 /// different terms apart.
 pub fn order_laws()
     ensures total { IsTotalOrder term_cmp }
-    ensures tied { (decl : ℕ → Op) (t u : Term) → Agrees decl t → Agrees decl u → term_cmp t u ≡ Equal → t ≡ u }
+    ensures tied { (decl : ℕ → Op) (t u : Term) → Agrees decl t → Agrees decl u
+        → term_cmp t u ≡ Equal → t ≡ u }
 {}
 
 /// Equality modulo commutativity is an equivalence and a congruence, also under substitutions,
@@ -28,8 +29,10 @@ pub fn equality_laws()
     ensures reflexive { (t : Term) → Same t t }
     ensures symmetric { (t u : Term) → Same t u → Same u t }
     ensures transitive { (s t u : Term) → Same s t → Same t u → Same s u }
-    ensures congruent { (op : Op) (ts us : List Term) → SameAll ts us → Same (App op ts) (App op us) }
-    ensures instances { (s : List (Variable × Term)) (t u : Term) → Same t u → Same (applied s t) (applied s u) }
+    ensures congruent { (op : Op) (ts us : List Term) → SameAll ts us
+        → Same (App op ts) (App op us) }
+    ensures instances { (s : List (Variable × Term)) (t u : Term) → Same t u
+        → Same (applied s t) (applied s u) }
     ensures sizes { (t u : Term) → Same t u → symbol_count t ≡ symbol_count u }
 {}
 
@@ -39,8 +42,10 @@ pub fn equality_laws()
 pub fn canonical_laws()
     ensures settled { (t : Term) → canonical (canonical t) ≡ canonical t }
     ensures sizes { (t : Term) → symbol_count (canonical t) ≡ symbol_count t }
-    ensures forms { (decl : ℕ → Op) (t u : Term) → Agrees decl t → Agrees decl u → (canonical t ≡ canonical u ↔ Same t u) }
-    ensures agreeing { (decl : ℕ → Op) (t : Term) → Agrees decl t → Agrees decl (canonical t) }
+    ensures forms { (decl : ℕ → Op) (t u : Term) → Agrees decl t → Agrees decl u
+        → (canonical t ≡ canonical u ↔ Same t u) }
+    ensures agreeing { (decl : ℕ → Op) (t : Term) → Agrees decl t
+        → Agrees decl (canonical t) }
 {}
 
 /// A ground term is its own instance, and its canonical form is ground.
