@@ -1,4 +1,4 @@
-use Rattle.std.specs.Prelude.{◌≡◌, true, List, [], ◌∷◌}
+use Rattle.std.specs.Prelude.{◌≡◌, ◌⊎◌, true, List, [], ◌∷◌}
 use Rattle.npa_term.specs.declared.term.Op.{Op}
 use Rattle.npa_term.specs.declared.term.Term.{Term}
 use Rattle.npa_term.specs.declared.term.Term.TheVariants.{App}
@@ -19,3 +19,12 @@ mutual
     nothing : SameAll [] []
     first : (t u : Term) (ts us : List Term) → Same t u → SameAll ts us →
         SameAll (t ∷ ts) (u ∷ us)
+
+-- The two arguments of a commutative operator, equal crosswise.
+pub data Crossed (op : Op) : List Term → List Term → Type 0 where
+  crossed : (a b c d : Term) → op.com ≡ true → Same a d → Same b c →
+      Crossed op (a ∷ b ∷ []) (c ∷ d ∷ [])
+
+-- Arguments of one operator that are equal place by place, or crosswise where it commutes.
+abbrev pub SameArguments : Op → List Term → List Term → Type 0
+SameArguments op ts us = SameAll ts us ⊎ Crossed op ts us
