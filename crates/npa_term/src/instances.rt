@@ -8,11 +8,10 @@ use crate::error::{NoMemory, TermFail};
 use crate::size::symbols;
 use crate::subst::Subst;
 use crate::term::Term;
+use std::alloc::Global;
 
 /// The most symbols that a term may have where the size of terms is bounded.
 pub const MAX_SYMBOLS: u64 = 1024;
-
-use std::alloc::Global;
 
 /// The canonical form of the term with the term of each bound variable in its place. A variable
 /// that isn't bound stays. The answer may have any size.
