@@ -6,6 +6,10 @@ pub record Subsorts : Type 0 where
   pub declared : ℕ
   pub pairs : List (ℕ × ℕ)
 
+-- The order that so many sorts and these pairs declare.
+abbrev pub subsorts : ℕ → List (ℕ × ℕ) → Subsorts
+subsorts declared pairs = record { declared = declared; pairs = pairs }
+
 -- The number of a sort: `Msg`, `Fresh` or a declared one.
 abbrev pub IsSort : Subsorts → ℕ → Type 0
 IsSort o s = s < o.declared + 2
@@ -34,7 +38,8 @@ pub record IsFirstInCycle (o : Subsorts) (s : ℕ) : Type 0 where
 pub record IsMaximalLower (o : Subsorts) (s t lower : ℕ) : Type 0 where
   pub first : IsAtOrBelow o lower s
   pub second : IsAtOrBelow o lower t
-  pub maximal : (r : ℕ) → IsAtOrBelow o r s → IsAtOrBelow o r t → IsAtOrBelow o lower r → lower ≡ r
+  pub maximal : (r : ℕ) → IsAtOrBelow o r s → IsAtOrBelow o r t →
+      IsAtOrBelow o lower r → lower ≡ r
 
 -- Whether a pair names `Fresh`.
 abbrev pub names_fresh : ℕ × ℕ → Bool

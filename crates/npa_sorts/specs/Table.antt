@@ -1,4 +1,4 @@
-use Rattle.std.specs.Prelude.{◌≡◌, ℕ, ◌+◌, ◌<◌, ◌≤◌, None, position, Bool, true, false, List, [], ◌∷◌, ◌++◌, map, length, slice_index_or, ◌↔◌}
+use Rattle.std.specs.Prelude.{◌≡◌, ℕ, ◌+◌, ◌<◌, ◌≤◌, Option, None, Some, position, nat_eq, ◌||◌, ◌&&◌, Bool, true, false, List, [], ◌∷◌, ◌++◌, map, length, slice_index_or, ◌↔◌}
 use Rattle.std.specs.declared.vec.Vec.{Vec}
 use Rattle.std.specs.declared.alloc.Global.{Global}
 use Rattle.npa_sorts.specs.Subsorts.{Subsorts, IsSort, IsBelow, AreSorts, names_fresh}
@@ -15,10 +15,21 @@ rows_of rows = map (λ row. row.items) rows
 abbrev pub entry : List (List Bool) → ℕ → ℕ → Bool
 entry rows s t = slice_index_or (slice_index_or rows s []) t false
 
+-- The entry after each sort that is at or below `lower` was put below what `above` marks.
+abbrev pub raised_entry : List (List Bool) → ℕ → List Bool → ℕ → ℕ → Bool
+raised_entry rows lower above s t =
+    entry rows s t || ((nat_eq s lower || entry rows s lower) && slice_index_or above t false)
+
 -- A table of as many rows as columns.
 pub record IsSquare (size : ℕ) (rows : List (List Bool)) : Type 0 where
   pub height : length rows ≡ size
   pub width : (s : ℕ) → s < size → length (slice_index_or rows s []) ≡ size
+
+-- The first sort that a table of a size marks as below itself, where it marks one.
+abbrev pub IsFirstMarked : List (List Bool) → ℕ → Option ℕ → Type 0
+IsFirstMarked rows size None = (s : ℕ) → s < size → entry rows s s ≡ false
+IsFirstMarked rows size (Some s) =
+    (s < size) × (entry rows s s ≡ true) × ((r : ℕ) → r < s → entry rows r r ≡ false)
 
 -- A table with a row and a column for each sort, which says of each two whether the first is
 -- strictly below the second.

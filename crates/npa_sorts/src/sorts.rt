@@ -1,7 +1,7 @@
-ghost use Rattle.std.specs.Prelude.{◌≡◌, ◌≢◌, ◌<◌, ◌≤◌, ◌+◌, ◌↔◌, ℕ, Bool, true, false, None, Some, IsTrue, All, Contains, IfOk, IsErrOf, position};
+ghost use Rattle.std.specs.Prelude.{◌≡◌, ◌≢◌, ◌<◌, ◌≤◌, ◌+◌, ◌↔◌, ℕ, None, Some, IsTrue, Contains, IfOk, IsErrOf, position};
 ghost use Rattle.std.specs.Bool.{OnTrue, OnFalse};
 ghost use Rattle.std.specs.List.Sorted.{IsStrictlyIncreasing};
-ghost use Rattle.npa_sorts.specs.Subsorts.{Subsorts, IsSort, AreSorts, IsBelow, IsAtOrBelow, IsFirstInCycle, IsMaximalLower, IsPassedBy, names_fresh};
+ghost use Rattle.npa_sorts.specs.Subsorts.{subsorts, IsSort, AreSorts, IsBelow, IsAtOrBelow, IsFirstInCycle, IsMaximalLower, IsPassedBy, names_fresh};
 
 use crate::error::{NoMemory, SortFail};
 use crate::table::{cell, close, first_in_cycle};
@@ -34,14 +34,14 @@ pub struct Sorts {
 }
 
 impl Model for Sorts {
-    ghost use Rattle.npa_sorts.specs.Subsorts.{Subsorts};
+    ghost use Rattle.npa_sorts.specs.Subsorts.{Subsorts, subsorts};
     ghost use Rattle.npa_sorts.specs.Table.{rows_of, IsOrder};
 
     ghost Value = { Subsorts };
 
-    ghost view = { λ s. record { declared = s.declared; pairs = s.pairs } };
+    ghost view = { λ s. subsorts s.declared s.pairs };
 
-    ghost invariant = { λ s. IsOrder (record { declared = s.declared; pairs = s.pairs }) (rows_of s.below.items) };
+    ghost invariant = { λ s. IsOrder (subsorts s.declared s.pairs) (rows_of s.below.items) };
 }
 
 impl Sorts {
@@ -49,11 +49,13 @@ impl Sorts {
     /// closure of the pairs and of each declared sort below `Msg`.
     pub fn new(alloc: Global, declared: u16, pairs: &SortPairs) -> Result<Sorts, SortFail>
         requires few { declared ≤ 65533 }
-        requires sorts { AreSorts (record { declared = declared; pairs = pairs.now }) }
-        ensures value { IfOk result (λ s. s ≡ record { declared = declared; pairs = pairs.now }) }
+        requires sorts { AreSorts (subsorts declared pairs.now) }
+        ensures value { IfOk result (λ s. s ≡ subsorts declared pairs.now) }
         ensures order { IfOk result (λ s. (r : ℕ) → IsBelow s r r → ⊥) }
-        ensures fresh { (k : ℕ) → IsErrOf result (SortFail.Fresh k) ↔ (position names_fresh pairs.now ≡ Some k) }
-        ensures cycle { (s : ℕ) → IsErrOf result (SortFail.Cycle s) → IsFirstInCycle (record { declared = declared; pairs = pairs.now }) s }
+        ensures fresh { (k : ℕ) → IsErrOf result (SortFail.Fresh k)
+            ↔ (position names_fresh pairs.now ≡ Some k) }
+        ensures cycle { (s : ℕ) → IsErrOf result (SortFail.Cycle s)
+            → IsFirstInCycle (subsorts declared pairs.now) s }
     {
         if let Some(place) = first_fresh(pairs.as_slice()) {
             return Err(SortFail::Fresh(place as u64));
@@ -90,10 +92,13 @@ impl Sorts {
     /// It is a partial order of the sorts, `Msg` is above each declared sort, and `Fresh` stands
     /// alone.
     pub fn laws(&self)
-        ensures transitive { (s t u : ℕ) → IsAtOrBelow self.now s t → IsAtOrBelow self.now t u → IsAtOrBelow self.now s u }
-        ensures antisymmetric { (s t : ℕ) → IsAtOrBelow self.now s t → IsAtOrBelow self.now t s → s ≡ t }
+        ensures transitive { (s t u : ℕ) → IsAtOrBelow self.now s t → IsAtOrBelow self.now t u
+            → IsAtOrBelow self.now s u }
+        ensures antisymmetric { (s t : ℕ) → IsAtOrBelow self.now s t → IsAtOrBelow self.now t s
+            → s ≡ t }
         ensures acyclic { (s : ℕ) → IsBelow self.now s s → ⊥ }
-        ensures lower { (s t : ℕ) → IsAtOrBelow self.now s t → IsSort self.now t → IsSort self.now s }
+        ensures lower { (s t : ℕ) → IsAtOrBelow self.now s t → IsSort self.now t
+            → IsSort self.now s }
         ensures msg { (s : ℕ) → 2 ≤ s → IsSort self.now s → IsAtOrBelow self.now s MSG }
         ensures fresh { (s t : ℕ) → IsBelow self.now s t → (s ≢ FRESH) × (t ≢ FRESH) }
     {
@@ -113,7 +118,8 @@ impl Sorts {
     pub fn maximal_lower(&self, alloc: Global, s: u16, t: u16) -> Result<SortNums, NoMemory>
         requires first { IsSort self.now s }
         requires second { IsSort self.now t }
-        ensures maximal { IfOk result (λ sorts. (r : ℕ) → Contains sorts r ↔ IsMaximalLower self.now s t r) }
+        ensures maximal { IfOk result (λ sorts.
+            (r : ℕ) → Contains sorts r ↔ IsMaximalLower self.now s t r) }
         ensures ascending { IfOk result (λ sorts. IsStrictlyIncreasing sorts) }
     {
         let mut found = List::new(alloc);
@@ -141,7 +147,8 @@ impl Sorts {
         requires first { IsSort self.now s }
         requires second { IsSort self.now t }
         ensures passed { OnTrue result ((r : ℕ) × IsPassedBy self.now s t lower r) }
-        ensures maximal { OnFalse result ((r : ℕ) → IsAtOrBelow self.now r s → IsAtOrBelow self.now r t → IsAtOrBelow self.now lower r → lower ≡ r) }
+        ensures maximal { OnFalse result ((r : ℕ) → IsAtOrBelow self.now r s
+            → IsAtOrBelow self.now r t → IsAtOrBelow self.now lower r → lower ≡ r) }
     {
         for r in 0..self.declared + 2 {
             if r != lower && self.le(lower, r) && self.is_common(r, s, t) {

@@ -1,6 +1,6 @@
-ghost use Rattle.std.specs.Prelude.{◌≡◌, ◌<◌, ◌≤◌, ◌+◌, ℕ, Bool, true, false, nat_eq, ◌||◌, ◌&&◌, List, [], map, length, replicate, slice_set, slice_index_or, All, IfOk, OnOk, MatchOption};
-ghost use Rattle.npa_sorts.specs.Subsorts.{Subsorts, IsSort, AreSorts};
-ghost use Rattle.npa_sorts.specs.Table.{entry, rows_of, with_pair, IsTable, IsSquare};
+ghost use Rattle.std.specs.Prelude.{◌≡◌, ◌<◌, ◌≤◌, ◌+◌, ℕ, true, false, ◌||◌, ◌&&◌, [], length, replicate, slice_set, slice_index_or, IfOk, OnOk};
+ghost use Rattle.npa_sorts.specs.Subsorts.{Subsorts, subsorts, AreSorts};
+ghost use Rattle.npa_sorts.specs.Table.{entry, raised_entry, rows_of, with_pair, IsTable, IsSquare, IsFirstMarked};
 
 use crate::error::NoMemory;
 use crate::sorts::SortPair;
@@ -14,8 +14,8 @@ pub(crate) fn close(
     pairs: &[SortPair],
 ) -> Result<Vec<Vec<bool>>, NoMemory>
     requires few { declared ≤ 65533 }
-    requires sorts { AreSorts (record { declared = declared; pairs = pairs.now }) }
-    ensures { IfOk result (λ table. IsTable (record { declared = declared; pairs = pairs.now }) (rows_of table.items)) }
+    requires sorts { AreSorts (subsorts declared pairs.now) }
+    ensures { IfOk result (λ table. IsTable (subsorts declared pairs.now) (rows_of table.items)) }
 {
     let mut table = start(alloc, declared)?;
     for pair in pairs {
@@ -34,7 +34,8 @@ fn add_pair(
     requires square { IsSquare (length table.old.items) (rows_of table.old.items) }
     requires lower { lower < length table.old.items }
     requires upper { upper < length table.old.items }
-    ensures { OnOk result ((o : Subsorts) → IsTable o (rows_of table.old.items) → IsTable (with_pair o lower upper) (rows_of table.new.items)) }
+    ensures { OnOk result ((o : Subsorts) → IsTable o (rows_of table.old.items) →
+        IsTable (with_pair o lower upper) (rows_of table.new.items)) }
 {
     if cell(table, lower, upper) {
         return Ok(());
@@ -47,7 +48,7 @@ fn add_pair(
 // The table of the order without pairs: declared sorts are below `Msg`.
 fn start(alloc: Global, declared: u16) -> Result<Vec<Vec<bool>>, NoMemory>
     requires { declared ≤ 65533 }
-    ensures { IfOk result (λ table. IsTable (record { declared = declared; pairs = [] }) (rows_of table.items)) }
+    ensures { IfOk result (λ table. IsTable (subsorts declared []) (rows_of table.items)) }
 {
     let size = declared as usize + 2;
     let mut table = Vec::with_capacity(alloc, size)?;
@@ -82,7 +83,8 @@ fn raise(table: &mut Vec<Vec<bool>>, lower: usize, above: &[bool])
     requires square { IsSquare (length above.now) (rows_of table.old.items) }
     requires within { lower < length above.now }
     ensures square { IsSquare (length above.now) (rows_of table.new.items) }
-    ensures raised { (s t : ℕ) → s < length above.now → t < length above.now → entry (rows_of table.new.items) s t ≡ (entry (rows_of table.old.items) s t || ((nat_eq s lower || entry (rows_of table.old.items) s lower) && slice_index_or above.now t false)) }
+    ensures raised { (s t : ℕ) → s < length above.now → t < length above.now →
+        entry (rows_of table.new.items) s t ≡ raised_entry (rows_of table.old.items) lower above.now s t }
 {
     for s in 0..above.len() {
         raise_row(&mut table[s], s == lower, lower, above);
@@ -93,7 +95,9 @@ fn raise(table: &mut Vec<Vec<bool>>, lower: usize, above: &[bool])
 fn raise_row(row: &mut [bool], is_lower: bool, lower: usize, above: &[bool])
     requires long { length row.old ≡ length above.now }
     requires within { lower < length above.now }
-    ensures { (t : ℕ) → t < length above.now → slice_index_or row.new t false ≡ (slice_index_or row.old t false || ((is_lower || slice_index_or row.old lower false) && slice_index_or above.now t false)) }
+    ensures { (t : ℕ) → t < length above.now → slice_index_or row.new t false ≡
+        (slice_index_or row.old t false || ((is_lower || slice_index_or row.old lower false)
+        && slice_index_or above.now t false)) }
 {
     if is_lower || row[lower] {
         mark(row, above);
@@ -103,7 +107,8 @@ fn raise_row(row: &mut [bool], is_lower: bool, lower: usize, above: &[bool])
 // Marks in a row what another marks.
 fn mark(row: &mut [bool], more: &[bool])
     requires { length row.old ≡ length more.now }
-    ensures { (t : ℕ) → t < length more.now → slice_index_or row.new t false ≡ (slice_index_or row.old t false || slice_index_or more.now t false) }
+    ensures { (t : ℕ) → t < length more.now → slice_index_or row.new t false ≡
+        (slice_index_or row.old t false || slice_index_or more.now t false) }
 {
     for (t, marked) in more.iter().enumerate() {
         if *marked {
@@ -125,7 +130,7 @@ pub(crate) fn cell(table: &[Vec<bool>], s: usize, t: usize) -> bool
 // The least sort that the table has below itself.
 pub(crate) fn first_in_cycle(table: &[Vec<bool>]) -> Option<usize>
     requires { IsSquare (length table.now) (rows_of table.now) }
-    ensures { MatchOption result ((s : ℕ) → s < length table.now → entry (rows_of table.now) s s ≡ false) (λ s. (s < length table.now) × (entry (rows_of table.now) s s ≡ true) × ((r : ℕ) → r < s → entry (rows_of table.now) r r ≡ false)) }
+    ensures { IsFirstMarked (rows_of table.now) (length table.now) result }
 {
     for s in 0..table.len() {
         if cell(table, s, s) {

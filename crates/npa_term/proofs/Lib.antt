@@ -1,4 +1,5 @@
 pub mod AgreeingLaws
+pub mod AppliedLaws
 pub mod Bindings
 pub mod CanonicalLaws
 pub mod CompositionLaws
@@ -6,4 +7,6 @@ pub mod GroundLaws
 pub mod Induction
 pub mod OrderLaws
 pub mod Rows
+pub mod RenamedLaws
+pub mod SameCases
 pub mod SameLaws

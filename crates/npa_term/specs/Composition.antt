@@ -10,12 +10,21 @@ use Rattle.npa_term.specs.Symbols.{symbol_count}
 abbrev pub unbound : List (Variable × Term) → List (Variable × Term) → List (Variable × Term)
 unbound s bindings = filter (λ b. is_none (value_of s b.0)) bindings
 
+-- The instances of the values under a substitution, each canonical.
+abbrev pub instances_under : List (Variable × Term) → List (Variable × Term) →
+    List (Variable × Term)
+instances_under u bindings = map (λ b. (b.0, canonical (applied u b.1))) bindings
+
+-- The values, each canonical.
+abbrev pub canonical_values : List (Variable × Term) → List (Variable × Term)
+canonical_values bindings = map (λ b. (b.0, canonical b.1)) bindings
+
 -- The substitution that does `s` and then `u` (Baader, Nipkow 1998, on the composition of
 -- substitutions): the variables of `s`, each with the instance of its value under `u`, then the
 -- other variables of `u` with their values; each value is canonical.
-abbrev pub composed : List (Variable × Term) → List (Variable × Term) → List (Variable × Term)
-composed s u =
-    map (λ b. (b.0, canonical (applied u b.1))) s ++ map (λ b. (b.0, canonical b.1)) (unbound s u)
+abbrev pub composed : List (Variable × Term) → List (Variable × Term) →
+    List (Variable × Term)
+composed s u = instances_under u s ++ canonical_values (unbound s u)
 
 -- How many symbols the first value has that has more than `most`, up to the greatest 64-bit number.
 abbrev pub first_past : ℕ → List (Variable × Term) → Option ℕ

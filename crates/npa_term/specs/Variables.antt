@@ -18,10 +18,14 @@ abbrev mutual
 abbrev pub IsGround : Term → Type 0
 IsGround t = variables t ≡ []
 
+-- The variable with `base` added to its number, its sort as it was.
+abbrev pub raised_var : ℕ → Variable → Variable
+raised_var base v = record { num = v.num + base; sort = v.sort }
+
 abbrev mutual
-  -- The term with `base` added to the number of each variable, its sort as it was.
+  -- The term with `base` added to the number of each variable.
   pub renamed : ℕ → Term → Term
-  renamed base (Var v) = Var (record { num = v.num + base; sort = v.sort })
+  renamed base (Var v) = Var (raised_var base v)
   renamed base (Name n) = Name n
   renamed base (App' op n args) = App op (renamed_row base args)
 

@@ -1,9 +1,8 @@
-ghost use Rattle.std.specs.Prelude.{◌≡◌, ◌++◌, ◌↔◌, ℕ, Some, map, IfOk, OnOk};
-ghost use Rattle.std.specs.Option.{option_or};
+ghost use Rattle.std.specs.Prelude.{◌≡◌, ◌++◌, ◌↔◌, ℕ, Some, IfOk, IsErrOf, OnOk};
 ghost use Rattle.npa_term.specs.declared.term.Term.{Term};
 ghost use Rattle.npa_term.specs.Bound.{applied};
 ghost use Rattle.npa_term.specs.Canonical.{canonical};
-ghost use Rattle.npa_term.specs.Composition.{composed, unbound, first_past};
+ghost use Rattle.npa_term.specs.Composition.{composed, instances_under, canonical_values, unbound, first_past};
 ghost use Rattle.npa_term.specs.Same.{Same};
 
 use crate::canonical::canon;
@@ -18,8 +17,10 @@ use std::alloc::Global;
 /// tested in that order before anything is made.
 pub fn compose(alloc: Global, first: &Subst, next: &Subst) -> Result<Subst, TermFail>
     ensures value { IfOk result (λ s. s ≡ composed first.now next.now) }
-    ensures both { IfOk result (λ s. (t : Term) → Same (applied s t) (applied next.now (applied first.now t))) }
-    ensures large { (n : ℕ) → (result ≡ Err (TermFail.TooLarge n)) ↔ (first_past MAX_SYMBOLS (composed first.now next.now) ≡ Some n) }
+    ensures both { IfOk result (λ s. (t : Term) →
+        Same (applied s t) (applied next.now (applied first.now t))) }
+    ensures large { (n : ℕ) → IsErrOf result (TermFail.TooLarge n)
+        ↔ (first_past MAX_SYMBOLS (composed first.now next.now) ≡ Some n) }
 {
     if let Some(count) = first_large(first, next) {
         return Err(TermFail::TooLarge(count));
@@ -42,7 +43,7 @@ fn first_large(first: &Subst, next: &Subst) -> Option<u64>
 
 // The same over the variables of the first substitution.
 fn first_large_instance(first: &[Binding], next: &Subst) -> Option<u64>
-    ensures { result ≡ first_past MAX_SYMBOLS (map (λ b. (b.0, canonical (applied next.now b.1))) first.now) }
+    ensures { result ≡ first_past MAX_SYMBOLS (instances_under next.now first.now) }
 {
     for (_, t) in first {
         let count = symbols_under(next, t);
@@ -55,7 +56,7 @@ fn first_large_instance(first: &[Binding], next: &Subst) -> Option<u64>
 
 // The same over the variables that the first substitution leaves free.
 fn first_large_unbound(first: &Subst, next: &[Binding]) -> Option<u64>
-    ensures { result ≡ first_past MAX_SYMBOLS (map (λ b. (b.0, canonical b.1)) (unbound first.now next.now)) }
+    ensures { result ≡ first_past MAX_SYMBOLS (canonical_values (unbound first.now next.now)) }
 {
     for (v, t) in next {
         if first.get(*v).is_none() {
@@ -75,7 +76,8 @@ fn push_instances(
     first: &[Binding],
     next: &Subst,
 ) -> Result<(), NoMemory>
-    ensures { OnOk result (made.new.items ≡ made.old.items ++ map (λ b. (b.0, canonical (applied next.now b.1))) first.now) }
+    ensures { OnOk result
+        (made.new.items ≡ made.old.items ++ instances_under next.now first.now) }
 {
     for (v, t) in first {
         made.push((*v, instance(alloc, next, t)?))?;
@@ -90,7 +92,8 @@ fn push_unbound(
     first: &Subst,
     next: &[Binding],
 ) -> Result<(), NoMemory>
-    ensures { OnOk result (made.new.items ≡ made.old.items ++ map (λ b. (b.0, canonical b.1)) (unbound first.now next.now)) }
+    ensures { OnOk result
+        (made.new.items ≡ made.old.items ++ canonical_values (unbound first.now next.now)) }
 {
     for (v, t) in next {
         if first.get(*v).is_none() {

@@ -1,4 +1,4 @@
-ghost use Rattle.std.specs.Prelude.{◌≡◌, ◌<◌, ◌≤◌, ◌↔◌, ℕ, min, IfOk};
+ghost use Rattle.std.specs.Prelude.{◌≡◌, ◌<◌, ◌≤◌, ◌↔◌, ℕ, min, IfOk, IsErrOf};
 ghost use Rattle.npa_term.specs.Bound.{applied};
 ghost use Rattle.npa_term.specs.Canonical.{canonical};
 ghost use Rattle.npa_term.specs.Symbols.{symbol_count};
@@ -8,11 +8,10 @@ use crate::error::{NoMemory, TermFail};
 use crate::size::symbols;
 use crate::subst::Subst;
 use crate::term::Term;
+use std::alloc::Global;
 
 /// The most symbols that a term may have where the size of terms is bounded.
 pub const MAX_SYMBOLS: u64 = 1024;
-
-use std::alloc::Global;
 
 /// The canonical form of the term with the term of each bound variable in its place. A variable
 /// that isn't bound stays. The answer may have any size.
@@ -59,7 +58,8 @@ pub fn symbols_under(s: &Subst, t: &Term) -> u64
 pub fn apply(alloc: Global, s: &Subst, t: &Term) -> Result<Term, TermFail>
     ensures value { IfOk result (λ u. u ≡ canonical (applied s.now t.now)) }
     ensures small { IfOk result (λ u. symbol_count u ≤ MAX_SYMBOLS) }
-    ensures large { (n : ℕ) → (result ≡ Err (TermFail.TooLarge n)) ↔ ((n ≡ min (symbol_count (applied s.now t.now)) u64.MAX) × (MAX_SYMBOLS < n)) }
+    ensures large { (n : ℕ) → IsErrOf result (TermFail.TooLarge n)
+        ↔ ((n ≡ min (symbol_count (applied s.now t.now)) u64.MAX) × (MAX_SYMBOLS < n)) }
 {
     let count = symbols_under(s, t);
     if count > MAX_SYMBOLS {

@@ -19,12 +19,15 @@ pub use composition::compose;
 pub use equal::same;
 pub use error::{NoMemory, TermFail};
 pub use instances::{MAX_SYMBOLS, apply, instance, symbols_under};
-pub use laws::{canonical_laws, equality_laws, ground_laws, order_laws};
+pub use laws::{
+    canonical_laws, equality_cases, equality_laws, ground_laws, instance_laws, order_laws,
+    renaming_laws,
+};
 pub use order::cmp;
 pub use renaming::rename;
 pub use size::symbols;
 pub use subst::{Binding, Subst, Substs};
-pub use term::{Op, Term, TermPair, TermPairs, Terms, Var, copy};
+pub use term::{Op, Term, TermPair, TermPairs, Terms, Var, copy, copy_all};
 
 #[cfg(test)]
 mod tests;

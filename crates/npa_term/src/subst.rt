@@ -1,9 +1,9 @@
-ghost use Rattle.std.specs.Prelude.{◌≡◌, [], ◌∷◌, ◌++◌, OnOk, OnErr};
+ghost use Rattle.std.specs.Prelude.{◌≡◌, [], ◌∷◌, ◌++◌, IfOk, OnOk, OnErr};
 ghost use Rattle.std.specs.Option.{option_copied};
 ghost use Rattle.npa_term.specs.Bound.{value_of, BindsOnce};
 
 use crate::error::NoMemory;
-use crate::term::{Term, Var};
+use crate::term::{Term, Var, copy};
 use npa_list::List;
 use std::alloc::Global;
 use std::marker::Model;
@@ -79,6 +79,17 @@ impl Subst {
         ensures once { BindsOnce self.now }
     {
         self.bindings.as_slice()
+    }
+
+    /// A copy of the substitution, with the bindings in the same order.
+    pub fn copy(&self, alloc: Global) -> Result<Subst, NoMemory>
+        ensures { IfOk result (λ s. s ≡ self.now) }
+    {
+        let mut bindings = Vec::with_capacity(alloc, self.bindings.len())?;
+        for (v, t) in &self.bindings {
+            bindings.push((*v, copy(alloc, t)?))?;
+        }
+        Ok(Subst { bindings })
     }
 
     // The substitution with these bindings.

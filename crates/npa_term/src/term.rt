@@ -54,3 +54,14 @@ pub fn copy(alloc: Global, t: &Term) -> Result<Term, NoMemory>
         }
     }
 }
+
+/// A copy of a list of terms, in the same order.
+pub fn copy_all(alloc: Global, ts: &[Term]) -> Result<Terms, NoMemory>
+    ensures { IfOk result (λ us. us ≡ ts.now) }
+{
+    let mut copies = Vec::with_capacity(alloc, ts.len())?;
+    for t in ts {
+        copies.push(copy(alloc, t)?)?;
+    }
+    Ok(List::from_vec(copies))
+}

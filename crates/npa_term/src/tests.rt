@@ -67,6 +67,9 @@ fn sorts_copies_and_renames(rt: HostRuntime) -> Result<(), NoMemory> {
     let sum = applied(alloc, PLUS, constant(alloc, B), constant(alloc, A))?;
     assert!(&rt; is_constants(&canon(alloc, &sum)?, PLUS, A, B));
     assert!(&rt; is_constants(&copy(alloc, &sum)?, PLUS, B, A));
+    if let Term::App(_, args) = &sum {
+        assert!(&rt; copy_all(alloc, args.as_slice())?.len() == 2);
+    }
     assert!(&rt; cmp(&sum, &canon(alloc, &sum)?) == Ordering::Greater);
     assert!(&rt; symbols(&sum) == 3);
     let pair = applied(alloc, PAIR, constant(alloc, B), constant(alloc, A))?;
@@ -88,6 +91,7 @@ fn substitutes(rt: HostRuntime) -> Result<(), TermFail> {
     assert!(&rt; s.get(X).is_some());
     assert!(&rt; s.get(Y).is_none());
     let t = applied(alloc, PLUS, Term::Var(X), constant(alloc, A))?;
+    assert!(&rt; s.copy(alloc)?.get(X).is_some());
     assert!(&rt; symbols_under(&s, &t) == 3);
     assert!(&rt; is_constants(&apply(alloc, &s, &t)?, PLUS, A, B));
     assert!(&rt; is_constants(&instance(alloc, &s, &t)?, PLUS, A, B));
