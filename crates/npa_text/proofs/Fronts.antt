@@ -14,7 +14,7 @@ use Rattle.npa_text.specs.declared.fault.TextFault.{TextFault}
 use Rattle.npa_text.specs.declared.fault.TextFault.TheVariants.{Syntax}
 use Rattle.npa_text.specs.declared.parser.Parsed.{Parsed}
 use Rattle.npa_text.specs.Places.{first_place}
-use Rattle.npa_text.specs.Scans.{Lexes, ended, blank, comment, token, stuck}
+use Rattle.npa_text.specs.Lexing.{Lexes, ended, blank, comment, token, stuck}
 use Rattle.npa_text.specs.Terminals.{terminal_of}
 use Rattle.npa_text.specs.Parses.{terminals_from, place_at, CannotGoOn, StopsBehind, IsFirstFault, PlacesFirstFault}
 use Rattle.npa_text.proofs.Spellings.{begun}

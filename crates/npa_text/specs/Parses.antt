@@ -11,7 +11,7 @@ use Rattle.npa_text.specs.declared.fault.TextFault.{TextFault}
 use Rattle.npa_text.specs.declared.fault.TextFault.TheVariants.{Syntax, NoMemory}
 use Rattle.npa_text.specs.declared.parser.Parsed.{Parsed}
 use Rattle.npa_text.specs.Places.{first_place, end_place}
-use Rattle.npa_text.specs.Scans.{Lexes}
+use Rattle.npa_text.specs.Lexing.{Lexes}
 use Rattle.npa_text.specs.Terminals.{terminal_of}
 
 -- the terminals of tokens the first of which stands at a place of their list

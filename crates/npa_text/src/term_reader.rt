@@ -1,6 +1,6 @@
 ghost use Rattle.std.specs.Prelude.{◌≡◌, ◌≤◌, length, None, IfOk, OnErr};
 ghost use Rattle.npa_text.specs.Places.{first_place};
-ghost use Rattle.npa_text.specs.Scans.{Lexes};
+ghost use Rattle.npa_text.specs.Lexing.{Lexes};
 ghost use Rattle.npa_text.specs.RawTerms.{IsTermAt, AnswersTerm, PlacesTermFault};
 
 use crate::fault::TextFault;
