@@ -80,10 +80,15 @@ pub fn instance_laws()
         → canonical (applied s (canonical t)) ≡ canonical (applied s t) }
 {}
 
-/// Renaming changes nothing but the numbers of variables, and keeps terms equal.
+/// Renaming changes nothing but the numbers of variables. It keeps terms equal, in their order and
+/// canonical.
 pub fn renaming_laws()
     ensures variables { (base : ℕ) (t : Term)
         → variables (renamed base t) ≡ map (raised_var base) (variables t) }
     ensures sizes { (base : ℕ) (t : Term) → symbol_count (renamed base t) ≡ symbol_count t }
     ensures same { (base : ℕ) (t u : Term) → Same t u → Same (renamed base t) (renamed base u) }
+    ensures order { (base : ℕ) (t u : Term)
+        → term_cmp (renamed base t) (renamed base u) ≡ term_cmp t u }
+    ensures canonical { (base : ℕ) (t : Term)
+        → canonical (renamed base t) ≡ renamed base (canonical t) }
 {}
