@@ -1,4 +1,5 @@
--- How far a schedule is executed.
+-- How far a schedule is executed (strand spaces: Thayer, Herzog, Guttman 1999; forwards execution
+-- as in Escobar, Meadows, Meseguer 2009).
 use Rattle.std.specs.Prelude.{◌≡◌, ℕ, List, Result, Ok, Err, length}
 use Rattle.npa_term.specs.declared.term.Term.{Term}
 use Rattle.npa_sig.specs.declared.protocol.Strand.{Strand}

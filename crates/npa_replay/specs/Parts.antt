@@ -1,4 +1,5 @@
--- The known parts of an aim without variables.
+-- The known parts of an aim without variables, as facts that the intruder has (attack patterns:
+-- Escobar, Meadows, Meseguer 2009).
 use Rattle.std.specs.Prelude.{◌≡◌, ℕ, ◌+◌, ◌<◌, List, [], Option, None, Some, slice_get, length, Contains}
 use Rattle.npa_term.specs.declared.term.Term.{Term}
 use Rattle.npa_term.specs.Canonical.{canonical}
@@ -24,6 +25,7 @@ pub record IsFirstUnsent (sent : List Term) (parts : List Part) (k : ℕ) : Type
   pub missed : IsSent sent unsent → ⊥
   pub others : AreSent sent parts before
 
+-- what a search for the first part that wasn't sent finds
 abbrev pub FindsUnsent : List Term → List Part → Option ℕ → Type 0
 FindsUnsent sent parts (Some k) = IsFirstUnsent sent parts k
 FindsUnsent sent parts None = AreSent sent parts (length parts)

@@ -25,6 +25,7 @@ abbrev pub IsKnown : Part → Type 0
 IsKnown (part.Known t) = Unit {0}
 IsKnown (part.Strand strand bar args) = ⊥
 
+-- each part of an aim is known
 abbrev pub AreKnown : List Part → Type 0
 AreKnown parts = (k : ℕ) (p : Part) → slice_get parts k ≡ Some p → IsKnown p
 

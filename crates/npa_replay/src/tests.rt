@@ -1,4 +1,4 @@
-ghost use Rattle.std.specs.Prelude.{◌≡◌, ◌<◌, ◌^◌, ℕ, List, [], ◌∷◌, Some, length, slice_get, replicate, IfOk, Contains};
+ghost use Rattle.std.specs.Prelude.{◌≡◌, ◌<◌, ◌^◌, ℕ, [], Some, length, slice_get, IfOk, Contains};
 ghost use Rattle.npa_term.specs.declared.term.Term.{Term};
 ghost use Rattle.npa_term.specs.Variables.{IsGround};
 ghost use Rattle.npa_sig.specs.declared.protocol.Strand.{Strand};
