@@ -1,8 +1,8 @@
 -- An entry at its place, and the list after a change there.
-use Rattle.std.proofs.Common.{◌≡◌, ℕ, suc, zero, ◌+◌, ◌-◌, ◌<◌, ◌≤◌, Bool, true, false, cond, Option, Some, None, List, [], ◌∷◌, length, get_or, set, refl, ap, ◌∙◌, arith, sym, subst}
+use Rattle.std.proofs.Common.{◌≡◌, ℕ, suc, zero, ◌+◌, ◌<◌, ◌≤◌, true, false, cond, Some, None, List, [], ◌∷◌, length, get_or, set, refl, ap, ◌∙◌, arith}
 use Rattle.std.specs.Str.{bytes_eq}
 use Rattle.npa_text.specs.declared.memory.MemEntry.{MemEntry}
-use Rattle.npa_text.specs.Entries.{entry_of, place_from, changed, with_fault, with_long}
+use Rattle.npa_text.specs.Entries.{place_from, changed, with_fault, with_long}
 use Rattle.npa_text.specs.Counts.{one_more}
 
 -- the place is past the ones before the list, and within it

@@ -1,5 +1,5 @@
 -- What a read of texts in memory leaves as it was, and which counts it raises.
-use Rattle.std.proofs.Common.{◌≡◌, ℕ, suc, zero, ◌+◌, ◌-◌, ◌<◌, ◌≤◌, Bool, true, false, cond, Option, Some, None, Result, Ok, Err, List, [], ◌∷◌, length, refl, ap, ◌∙◌, arith, sym, subst, inl, inr}
+use Rattle.std.proofs.Common.{◌≡◌, ℕ, ◌+◌, ◌<◌, ◌≤◌, Bool, true, false, cond, Option, Some, None, Result, Ok, Err, List, [], ◌∷◌, refl, ap, ◌∙◌, arith, sym, subst, inl, inr}
 use Rattle.std.specs.Prelude.{nat_lt, ◌⊎◌, IsSome}
 use Rattle.std.specs.Result.{IsErrOf}
 use Rattle.std.specs.Str.{bytes_eq}

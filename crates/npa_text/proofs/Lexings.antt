@@ -1,6 +1,6 @@
 -- A scan finds the tokens that a text has, and a text has no others.
-use Rattle.std.proofs.Common.{◌≡◌, ℕ, suc, zero, ◌+◌, ◌-◌, ◌<◌, ◌≤◌, Bool, true, false, cond, Option, Some, None, List, [], ◌∷◌, ◌++◌, length, take, drop, refl, ap, ◌∙◌, arith, sym, subst, add-one, length-drop}
-use Rattle.std.specs.Prelude.{◌==◌, not, ◌&&◌, IsTrue}
+use Rattle.std.proofs.Common.{◌≡◌, ℕ, suc, zero, ◌+◌, ◌≤◌, true, false, cond, Option, Some, None, List, [], ◌∷◌, ◌++◌, length, take, drop, refl, ap, ◌∙◌, arith, sym, subst, add-one, length-drop}
+use Rattle.std.specs.Prelude.{◌==◌, not}
 use Rattle.std.specs.List.{list_all}
 use Rattle.std.proofs.lemmas.Bool.Decides.{nat_tests}
 use Rattle.std.proofs.lemmas.List.{take-append-drop, length-take-le}
@@ -10,11 +10,11 @@ use Rattle.npa_text.specs.declared.token.Lexed.{Lexed}
 use Rattle.npa_text.specs.declared.place.Place.{Place}
 use Rattle.npa_text.specs.Bytes.{is_blank, is_in_line, run, begins_with}
 use Rattle.npa_text.specs.Places.{moved, moved_over, first_place}
-use Rattle.npa_text.specs.Lexemes.{Spells, is_ended}
-use Rattle.npa_text.specs.Scans.{Lexes, ended, blank, comment, token, stuck, NothingBegins, begins_comment, token_of, gap_of, piece_from, met, scan, in_front, lexed}
+use Rattle.npa_text.specs.Lexing.{Lexes, ended, blank, comment, token, stuck, NothingBegins, begins_comment}
+use Rattle.npa_text.specs.Scans.{token_of, gap_of, piece_from, met, scan, in_front, lexed}
 use Rattle.npa_text.proofs.Runs.{run_passes, run_is_past, run_of_passing, is_past}
 use Rattle.npa_text.proofs.Decimals.{both_true}
-use Rattle.npa_text.proofs.Widths.{gap_within, lexeme_within}
+use Rattle.npa_text.proofs.Widths.{lexeme_within}
 use Rattle.npa_text.proofs.Steps.{run_within}
 use Rattle.npa_text.proofs.Spellings.{lexeme_spelt, begun, spelled_found, token_no_gap, same_byte}
 

@@ -1,5 +1,5 @@
 -- The front of a text, as the code cuts it.
-use Rattle.std.proofs.Common.{◌≡◌, ℕ, ◌+◌, ◌-◌, ◌<◌, ◌≤◌, Bool, true, false, List, [], ◌∷◌, length, get_or, take, drop, refl, ap, ◌∙◌, arith, sym}
+use Rattle.std.proofs.Common.{◌≡◌, ℕ, ◌+◌, ◌-◌, ◌≤◌, true, false, List, ◌∷◌, length, get_or, take, drop, ap, ◌∙◌, arith, sym}
 use Rattle.std.proofs.lemmas.List.{take_rest, drop_more}
 use Rattle.npa_text.specs.declared.token.Kind.TheVariants.{Number}
 use Rattle.npa_text.specs.Bytes.{is_letter, is_digit, run}

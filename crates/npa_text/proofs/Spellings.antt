@@ -1,6 +1,6 @@
 -- What is found at a byte is a token of the table, and each token of the table is found.
-use Rattle.std.proofs.Common.{◌≡◌, ℕ, suc, zero, ◌+◌, ◌-◌, ◌<◌, ◌≤◌, ◌^◌, Bool, true, false, cond, Option, Some, None, List, [], ◌∷◌, ◌++◌, length, get_or, take, drop, refl, ap, ◌∙◌, arith, sym, subst, inl, inr, rules, lit<, lit≤}
-use Rattle.std.specs.Prelude.{◌==◌, not, nat_le, ◌&&◌, ◌||◌, IsTrue, ◌⊎◌, codes}
+use Rattle.std.proofs.Common.{◌≡◌, ℕ, ◌<◌, ◌≤◌, ◌^◌, Bool, true, false, cond, Option, Some, None, List, [], ◌∷◌, ◌++◌, length, take, drop, refl, ap, ◌∙◌, arith, sym, subst, lit<}
+use Rattle.std.specs.Prelude.{◌==◌, not, ◌||◌}
 use Rattle.std.specs.List.{list_all}
 use Rattle.std.specs.Fmt.{decimal}
 use Rattle.std.proofs.lemmas.Bool.Decides.{nat_tests}
@@ -11,7 +11,8 @@ use Rattle.npa_text.specs.declared.token.Kind.TheVariants.{Word, Number, FreshNa
 use Rattle.npa_text.specs.Bytes.{is_blank, is_letter, is_digit, is_word_byte, is_in_line, run, begins_with}
 use Rattle.npa_text.specs.Numerals.{decimal_value, is_numeral}
 use Rattle.npa_text.specs.Lexemes.{Spells, word, number, fresh_name, variable_mark, mark, mark_text, goes_on, is_ended}
-use Rattle.npa_text.specs.Scans.{token_of, gap_of, numbered, marked, mark_of, begins_comment}
+use Rattle.npa_text.specs.Lexing.{begins_comment}
+use Rattle.npa_text.specs.Scans.{token_of, gap_of, numbered, marked, mark_of}
 use Rattle.npa_text.proofs.Runs.{run_passes, run_is_past, run_of_passing, is_past}
 use Rattle.npa_text.proofs.Decimals.{decimal_digits, decimal_is_numeral, numeral_is_decimal, both_true}
 

@@ -1,12 +1,13 @@
 -- Each piece of a text stands on one line: its bytes behind the first are none of them a line feed.
-use Rattle.std.proofs.Common.{◌≡◌, ℕ, suc, zero, ◌+◌, ◌-◌, ◌<◌, ◌≤◌, Bool, true, false, cond, Option, Some, None, List, [], ◌∷◌, length, get_or, take, drop, refl, ap, ◌∙◌, arith, sym, subst}
-use Rattle.std.specs.Prelude.{◌==◌, not}
+use Rattle.std.proofs.Common.{◌≡◌, ℕ, ◌+◌, ◌≤◌, Bool, true, false, cond, Option, Some, None, List, [], ◌∷◌, take, refl, arith, subst}
+use Rattle.std.specs.Prelude.{◌==◌}
 use Rattle.npa_text.specs.declared.token.Kind.{Kind}
 use Rattle.npa_text.specs.declared.token.Kind.TheVariants.{Word, Number, FreshName, VariableMark, Minus, Arrow}
 use Rattle.std.proofs.lemmas.Bool.Decides.{nat_tests}
 use Rattle.npa_text.specs.Bytes.{is_letter, is_digit, is_word_byte, is_in_line, is_blank, run, begins_with}
 use Rattle.npa_text.specs.Numerals.{is_numeral}
-use Rattle.npa_text.specs.Scans.{token_of, gap_of, numbered, marked, mark_of, begins_comment}
+use Rattle.npa_text.specs.Lexing.{begins_comment}
+use Rattle.npa_text.specs.Scans.{token_of, gap_of, numbered, marked, mark_of}
 
 digit_in_line : (b : ℕ) → is_digit b ≡ true → is_in_line b ≡ true
 digit_in_line b h = grind (arith, nat_tests)

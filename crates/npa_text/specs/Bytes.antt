@@ -1,5 +1,5 @@
 -- The bytes that texts are made of, as codes of ASCII.
-use Rattle.std.specs.Prelude.{ℕ, Bool, true, false, ◌==◌, ◌&&◌, ◌||◌, not, nat_le, List, [], ◌∷◌, ◌+◌, if◌then◌else◌}
+use Rattle.std.specs.Prelude.{ℕ, Bool, false, ◌==◌, ◌&&◌, ◌||◌, not, nat_le, List, [], ◌∷◌, ◌+◌, if◌then◌else◌}
 
 -- a tab, a line feed, a carriage return or a space
 abbrev pub is_blank : ℕ → Bool
@@ -7,7 +7,7 @@ is_blank b = b == 9 || b == 10 || b == 13 || b == 32
 
 -- `A` to `Z` or `a` to `z`
 abbrev pub is_letter : ℕ → Bool
-is_letter b = nat_le 65 b && nat_le b 90 || nat_le 97 b && nat_le b 122
+is_letter b = (nat_le 65 b && nat_le b 90) || (nat_le 97 b && nat_le b 122)
 
 -- `0` to `9`
 abbrev pub is_digit : ℕ → Bool

@@ -1,5 +1,5 @@
 -- Texts in memory, found by their names.
-use Rattle.std.specs.Prelude.{ℕ, ◌+◌, Bool, List, [], ◌∷◌, Option, Some, None, if◌then◌else◌}
+use Rattle.std.specs.Prelude.{ℕ, ◌+◌, List, [], ◌∷◌, Option, Some, None, if◌then◌else◌}
 use Rattle.std.specs.Str.{bytes_eq}
 use Rattle.npa_text.specs.declared.memory.MemEntry.{MemEntry}
 use Rattle.npa_text.specs.Counts.{one_more}

@@ -1,5 +1,5 @@
 -- The faults of a text.
-use Rattle.std.specs.Prelude.{ℕ, ◌≡◌, List, Option, Some, Result, Ok, Err}
+use Rattle.std.specs.Prelude.{◌≡◌, List, Option, Some, Result, Ok, Err}
 use Rattle.npa_text.specs.declared.fault.TextFault.{TextFault}
 use Rattle.npa_text.specs.declared.fault.TextFault.TheVariants.{Syntax, NoMemory}
 use Rattle.npa_text.specs.declared.place.Place.{Place}

@@ -1,5 +1,5 @@
 -- The tokens of a text: the table of their spellings.
-use Rattle.std.specs.Prelude.{ℕ, Bool, true, false, ◌==◌, not, List, [], ◌∷◌, ◌+◌, ◌≡◌, ◌≤◌, IsTrue, Option, Some, None, codes}
+use Rattle.std.specs.Prelude.{ℕ, Bool, true, false, ◌==◌, not, List, [], ◌∷◌, ◌≡◌, ◌≤◌, IsTrue, Option, Some, None, codes}
 use Rattle.std.specs.List.{list_all}
 use Rattle.std.specs.Fmt.{decimal}
 use Rattle.npa_text.specs.declared.token.Kind.{Kind}

@@ -2,6 +2,7 @@ pub mod Bytes
 pub mod Places
 pub mod Numerals
 pub mod Lexemes
+pub mod Lexing
 pub mod Scans
 pub mod Faults
 pub mod Texts

@@ -1,5 +1,5 @@
 -- What reads of texts in memory answer, and what they count.
-use Rattle.std.specs.Prelude.{ℕ, ◌≡◌, ◌==◌, Bool, true, false, nat_lt, List, [], ◌++◌, length, Option, Some, None, Result, Ok, Err, IsOk, if◌then◌else◌}
+use Rattle.std.specs.Prelude.{ℕ, ◌≡◌, ◌==◌, Bool, true, false, nat_lt, List, [], length, Option, Some, None, Result, Ok, Err, IsOk, if◌then◌else◌}
 use Rattle.std.specs.List.{list_any}
 use Rattle.npa_text.specs.declared.memory.MemEntry.{MemEntry}
 use Rattle.npa_text.specs.declared.memory.MemFiles.{MemFiles}

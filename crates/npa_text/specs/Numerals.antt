@@ -1,6 +1,5 @@
 -- Numbers in decimal digits.
-use Rattle.std.specs.Prelude.{ℕ, Bool, true, false, ◌==◌, ◌&&◌, ◌||◌, not, nat_le, ◌+◌, ◌-◌, ◌*◌, List, [], ◌∷◌, is_some, if◌then◌else◌, min}
-use Rattle.npa_text.specs.Bytes.{is_digit}
+use Rattle.std.specs.Prelude.{ℕ, Bool, true, false, ◌==◌, ◌&&◌, not, nat_le, ◌+◌, ◌-◌, ◌*◌, List, [], ◌∷◌}
 
 -- the number that digits stand for, behind digits that stand for n
 abbrev pub value_after : ℕ → List ℕ → ℕ

@@ -1,42 +1,15 @@
--- The tokens of a text: between them stand only blanks and comments, and a comment goes from `//`
--- (47 47) to the end of its line.
-use Rattle.std.specs.Prelude.{ℕ, zero, suc, Bool, true, false, ◌==◌, ◌&&◌, not, List, [], ◌∷◌, ◌++◌, ◌+◌, ◌≡◌, IsTrue, Option, Some, None, length, take, if◌then◌else◌}
-use Rattle.std.specs.List.{list_all}
+-- The tokens of a text, found by one scan from its first byte on. It is proved to find those of
+-- `Lexing`, and serves proofs about code.
+use Rattle.std.specs.Prelude.{ℕ, zero, suc, Bool, ◌==◌, List, [], ◌∷◌, ◌+◌, Option, Some, None, take, if◌then◌else◌}
 use Rattle.npa_text.specs.declared.token.Kind.{Kind}
 use Rattle.npa_text.specs.declared.token.Kind.TheVariants.{Word, Number, FreshName, VariableMark, Open, Close, Comma, Colon, Semicolon, Equals, Less, Plus, Minus, Arrow}
 use Rattle.npa_text.specs.declared.token.Token.{Token}
 use Rattle.npa_text.specs.declared.token.Lexed.{Lexed}
 use Rattle.npa_text.specs.declared.place.Place.{Place}
 use Rattle.npa_text.specs.Bytes.{is_blank, is_letter, is_digit, is_word_byte, is_in_line, run, begins_with}
-use Rattle.npa_text.specs.Places.{first_place, moved, moved_over}
+use Rattle.npa_text.specs.Places.{first_place, moved}
 use Rattle.npa_text.specs.Numerals.{is_numeral}
-use Rattle.npa_text.specs.Lexemes.{Spells, is_ended}
-
--- a comment begins here
-abbrev pub begins_comment : ℕ → List ℕ → Bool
-begins_comment b bs = b == 47 && begins_with 47 bs
-
--- neither a blank nor a comment nor a token begins at b
-pub record NothingBegins (b : ℕ) (bs : List ℕ) : Type 0 where
-  pub no_blank : is_blank b ≡ false
-  pub no_comment : begins_comment b bs ≡ false
-  pub no_token : (k : Kind) (text rest : List ℕ) → b ∷ bs ≡ text ++ rest → Spells k text → IsTrue (is_ended k rest) → ⊥
-
--- bytes that stand from `at` and the place p on have these tokens, up to the first byte at which
--- nothing begins, whose place is the fault
-pub data Lexes : ℕ → Place → List ℕ → List Token → Option Place → Type 0 where
-  ended : (at : ℕ) (p : Place) → Lexes at p [] [] None
-  blank : (at : ℕ) (p : Place) (b : ℕ) (rest : List ℕ) (ts : List Token) (fault : Option Place)
-      → IsTrue (is_blank b) → Lexes (at + 1) (moved b p) rest ts fault → Lexes at p (b ∷ rest) ts fault
-  comment : (at : ℕ) (p : Place) (line rest : List ℕ) (ts : List Token) (fault : Option Place)
-      → IsTrue (list_all is_in_line line) → run is_in_line rest ≡ 0
-      → Lexes (at + length (47 ∷ 47 ∷ line)) (moved_over (47 ∷ 47 ∷ line) p) rest ts fault
-      → Lexes at p (47 ∷ 47 ∷ line ++ rest) ts fault
-  token : (at : ℕ) (p : Place) (k : Kind) (text rest : List ℕ) (ts : List Token) (fault : Option Place)
-      → Spells k text → IsTrue (is_ended k rest)
-      → Lexes (at + length text) (moved_over text p) rest ts fault
-      → Lexes at p (text ++ rest) (record { kind = k; start = at; end = at + length text; line = p.line; col = p.col } ∷ ts) fault
-  stuck : (at : ℕ) (p : Place) (b : ℕ) (rest : List ℕ) → NothingBegins b rest → Lexes at p (b ∷ rest) [] (Some p)
+use Rattle.npa_text.specs.Lexing.{begins_comment, token_between}
 
 -- what begins at a byte, and how many bytes behind it belong to it
 pub data Piece : Type 0 where
@@ -108,7 +81,7 @@ in_front t found = record { tokens = t ∷ found.tokens; fault = found.fault }
 abbrev pub met : Piece → ℕ → Place → (ℕ → Lexed) → Lexed
 met (gap n) at p behind = behind n
 met (lexeme k n) at p behind =
-    in_front (record { kind = k; start = at; end = at + (n + 1); line = p.line; col = p.col }) (behind n)
+    in_front (token_between k at (at + (n + 1)) p) (behind n)
 met nothing at p behind = record { tokens = []; fault = Some p }
 
 -- the scan of bytes that stand from `at` and the place p on, the first `skip` of which belong to the

@@ -169,7 +169,8 @@ impl MemFiles {
 
         // With no call marked, no name with a text has a fault more.
         ensures unmarked { self.old.failing ≡ [] → (n : List ℕ) → IsSome (entry_of self.old.files n)
-            → faults_in (entry_of self.new.files n) self.new.strange ≡ faults_in (entry_of self.old.files n) self.old.strange }
+            → faults_in (entry_of self.new.files n) self.new.strange
+            ≡ faults_in (entry_of self.old.files n) self.old.strange }
     {
         self.calls = one_more(self.calls);
         let marked = is_marked(&self.failing, self.calls);
@@ -220,7 +221,8 @@ impl MemSink {
     /// Writes a piece as `Sink::put` does: this contract says which answer comes, and what is counted.
     pub fn put_piece(&mut self, bytes: &[u8]) -> Result<(), PutFail>
         ensures state { self.new ≡ after_put self.old bytes.now (is_ok result) }
-        ensures fault { IsErrOf result PutFail.Fault ↔ IsTrue (is_marked self.old.failing (one_more self.old.calls)) }
+        ensures fault { IsErrOf result PutFail.Fault
+            ↔ IsTrue (is_marked self.old.failing (one_more self.old.calls)) }
         ensures unmarked { self.old.failing ≡ [] → self.new.faults ≡ self.old.faults }
     {
         self.calls = one_more(self.calls);

@@ -70,9 +70,12 @@ pub trait Files {
         ensures longs_stay { (n : List ℕ) → longs self.old n ≤ longs self.new n }
         ensures short { OnOk result (length into.new.items ≤ 1048576) }
         ensures told { OnOk result (IfSome (holds self.old name.now) (λ text. into.new.items ≡ text)) }
-        ensures fault { IsErrOf result ReadFail.Fault → Rose (faults self.old name.now) (faults self.new name.now) }
-        ensures too_long { IsErrOf result ReadFail.TooLong → Rose (longs self.old name.now) (longs self.new name.now) }
-        ensures told_too_long { IsErrOf result ReadFail.TooLong → IfSome (holds self.old name.now) (λ text. 1048576 < length text) }
+        ensures fault { IsErrOf result ReadFail.Fault
+            → Rose (faults self.old name.now) (faults self.new name.now) }
+        ensures too_long { IsErrOf result ReadFail.TooLong
+            → Rose (longs self.old name.now) (longs self.new name.now) }
+        ensures told_too_long { IsErrOf result ReadFail.TooLong
+            → IfSome (holds self.old name.now) (λ text. 1048576 < length text) }
         ensures refused { OnErr result (into.new.items ≡ []) };
 }
 
@@ -90,6 +93,7 @@ pub trait Sink {
         ensures faults_stay { faults self.old ≤ faults self.new }
         ensures ok { OnOk result (written self.new ≡ appended (written self.old) bytes.now) }
         ensures fault { IsErrOf result PutFail.Fault → Rose (faults self.old) (faults self.new) }
-        ensures front { IsErrOf result PutFail.Fault → AppendsFront (written self.old) (written self.new) bytes.now }
+        ensures front { IsErrOf result PutFail.Fault
+            → AppendsFront (written self.old) (written self.new) bytes.now }
         ensures memory { IsErrOf result PutFail.NoMemory → written self.new ≡ written self.old };
 }

@@ -1,7 +1,8 @@
 ghost use Rattle.std.specs.Prelude.{◌≡◌, ◌≤◌, ◌<◌, ◌+◌, length, List, Option, None, IfOk, IfErr};
 ghost use Rattle.npa_text.specs.Faults.{IsFaultOf, GivesTokens};
+ghost use Rattle.npa_text.specs.Lexing.{begins_comment, token_between, Lexes, AreTokens};
 ghost use Rattle.npa_text.specs.Places.{first_place, moved, along};
-ghost use Rattle.npa_text.specs.Scans.{mark_of, numbered, token_at, gap_at, begins_comment, lexed, Lexes};
+ghost use Rattle.npa_text.specs.Scans.{mark_of, numbered, token_at, gap_at, lexed};
 
 use crate::bytes::{begins_with, digit_run, is_blank, is_digit, is_letter, line_run, word_run};
 use crate::fault::{NoMemory, TextFault};
@@ -108,7 +109,10 @@ impl Cursor {
         requires in_text { self.at + more < 1048576 }
         requires line { self.place.line ≤ self.at + 1 }
         requires col { self.place.col ≤ self.at + 1 }
-        ensures { result ≡ record { at = self.at + (more + 1); place = along more (moved first self.place) } }
+        ensures { result ≡ record {
+          at = self.at + (more + 1);
+          place = along more (moved first self.place);
+        } }
     {
         let next = moved(first, self.place);
         Cursor {
@@ -123,13 +127,7 @@ impl Cursor {
     // The token of a kind that begins here and has `more` bytes behind its first.
     fn token(self, kind: Kind, more: usize) -> Token
         requires in_text { self.at + more < 1048576 }
-        ensures { result ≡ record {
-          kind = kind;
-          start = self.at;
-          end = self.at + (more + 1);
-          line = self.place.line;
-          col = self.place.col;
-        } }
+        ensures { result ≡ token_between kind self.at (self.at + (more + 1)) self.place }
     {
         Token {
             kind,
@@ -144,11 +142,14 @@ impl Cursor {
 /// The tokens of a text up to the first byte at which none begins, and the place of that byte. The
 /// longest token is taken; blanks and comments are passed over. A number with a leading zero or past
 /// its greatest value is no token, and neither is a `#` or `?` without a number.
+///
+/// A text has at most `MOST_BYTES` bytes.
 pub fn lex(alloc: Global, bytes: &[u8]) -> Result<Lexed, NoMemory>
     requires { length bytes.now ≤ 1048576 }
     ensures value { IfOk result (λ found. found ≡ lexed bytes.now) }
     ensures rule { IfOk result (λ found. Lexes 0 first_place bytes.now found.tokens found.fault) }
-    ensures only { (ts : List Token) (fault : Option Place) → Lexes 0 first_place bytes.now ts fault → IfOk result (λ found. found ≡ record { tokens = ts; fault = fault }) }
+    ensures only { (ts : List Token) (fault : Option Place) → Lexes 0 first_place bytes.now ts fault
+        → IfOk result (λ found. found ≡ record { tokens = ts; fault = fault }) }
 {
     let mut tokens = Tokens::new(alloc);
     let mut cursor = Cursor {
@@ -177,11 +178,11 @@ pub fn lex(alloc: Global, bytes: &[u8]) -> Result<Lexed, NoMemory>
 }
 
 /// The tokens of a text. A text that can't be cut into tokens is refused with the place of the first
-/// byte at which none begins.
+/// byte at which none begins. A text has at most `MOST_BYTES` bytes.
 pub fn tokens(alloc: Global, bytes: &[u8]) -> Result<Tokens, TextFault>
     requires { length bytes.now ≤ 1048576 }
-    ensures ok { IfOk result (λ tokens. Lexes 0 first_place bytes.now tokens None) }
-    ensures only { (ts : List Token) → Lexes 0 first_place bytes.now ts None → GivesTokens result ts }
+    ensures ok { IfOk result (AreTokens bytes.now) }
+    ensures only { (ts : List Token) → AreTokens bytes.now ts → GivesTokens result ts }
     ensures value { IfOk result (λ tokens. lexed bytes.now ≡ record { tokens = tokens; fault = None }) }
     ensures syntax { IfErr result (λ fault. IsFaultOf fault (lexed bytes.now).fault) }
 {
