@@ -133,7 +133,7 @@ item_turned {n = n} turned old =
 pub record RootsCovered {I : Type 0} (r : Rules I) (roots : List I) (history : List Event) (es : List (Entry I)) : Type 0 where
   pub covered : (number : ℕ) (x : I) → number < roots_placed history → Stands roots number x → Covered r x es
 
-roots_more : (before : List Event) (event : Event) → roots_placed (before ++ event ∷ []) ≡ roots_placed before + cond (is_root event) 1 0
+pub roots_more : (before : List Event) (event : Event) → roots_placed (before ++ event ∷ []) ≡ roots_placed before + cond (is_root event) 1 0
 roots_more before event = sum_by_push (λ e. cond (is_root e) 1 0) before event
 
 -- Any other event places no root.
@@ -217,7 +217,7 @@ settles_folds {r = r} {tick = tick} {parent = parent} zero x n (settles k y ys p
 settles_folds (suc j) x n (settles k y ys p ps c d a rest) s t = settles_folds j x n rest (record { is = s.is }) (record { is = t.is })
 
 -- Both expansions of one entry are the same list.
-same_children : {I : Type 0} {r : Rules I} {n : ℕ} {xs ys : List I} {c : Core I} → Expanding r n xs c → Expanding r n ys c → xs ≡ ys
+pub same_children : {I : Type 0} {r : Rules I} {n : ℕ} {xs ys : List I} {c : Core I} → Expanding r n xs c → Expanding r n ys c → xs ≡ ys
 same_children {r = r} {ys = ys} a b =
     let same = stands_one a.stands b.stands in
     let e = subst (λ w. r.expansion w.item ≡ Ok ys) (sym same) b.expands in

@@ -4,3 +4,7 @@ pub mod Soundness
 pub mod Stepping
 pub mod Histories
 pub mod Counting
+pub mod Ranges
+pub mod Inversions
+pub mod Runs
+pub mod Uniqueness

@@ -15,6 +15,10 @@ use Rattle.fold_core.specs.Machine.{Entry, Core, Stands, is_live, LiveCover, Exp
 abbrev pub Always : {I : Type 0} → Rules I → (List I → ℕ → List Event → Core I → Type 0) → Type 0
 Always r Fact = (roots : List _) (budget : ℕ) (history : List Event) (core : Core _) → After r roots budget history core → Fact roots budget history core
 
+-- A history leads to no other state.
+abbrev pub OneState : {I : Type 0} → Rules I → List I → ℕ → List Event → Core I → Type 0
+OneState r roots budget history core = (other : Core _) → After r roots budget history other → other ≡ core
+
 -- Some live entry covers the item.
 pub record Covered {I : Type 0} (r : Rules I) (x : I) (es : List (Entry I)) : Type 0 where
   pub by : ℕ

@@ -1,3 +1,6 @@
+ghost use Rattle.std.specs.Prelude.{◌≡◌};
+ghost use Rattle.fold_core.specs.Machine.{is_live, is_waiting, is_taken, is_root};
+
 use crate::error::Large;
 use npa_list::List;
 
@@ -36,6 +39,33 @@ pub enum Status {
     Retired { to: u32, tick: u64, taken: bool },
 }
 
+impl Status {
+    /// Whether the entry isn't retired.
+    pub fn is_live(&self) -> bool
+        ensures { result ≡ is_live self.now }
+    {
+        !matches!(self, Status::Retired { .. })
+    }
+
+    /// Whether the entry waits for a worker.
+    pub fn is_waiting(&self) -> bool
+        ensures { result ≡ is_waiting self.now }
+    {
+        matches!(self, Status::Waiting)
+    }
+
+    /// Whether a worker is expanding the entry, retired or not.
+    pub fn is_taken(&self) -> bool
+        ensures { result ≡ is_taken self.now }
+    {
+        match self {
+            Status::Taken => true,
+            Status::Retired { taken, .. } => *taken,
+            Status::Waiting | Status::Finished => false,
+        }
+    }
+}
+
 /// One step of the machine: what one call on the store does while it holds the lock.
 #[derive(Debug, Drop)]
 pub enum Event {
@@ -66,6 +96,15 @@ pub enum Event {
     },
     /// What was taken waits again.
     Reset,
+}
+
+impl Event {
+    /// Whether a root was placed.
+    pub fn is_root(&self) -> bool
+        ensures { result ≡ is_root self.now }
+    {
+        matches!(self, Event::Root { .. })
+    }
 }
 
 /// A history: the events in the order in which they came.

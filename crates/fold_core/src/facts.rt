@@ -1,9 +1,14 @@
 //! What holds of the machine after every history, whatever the rules are. The functions do
 //! nothing: the contract of each is the fact.
 
-ghost use Rattle.fold_core.specs.Facts.{Always, Pointers, Chains, NoDouble, Origins, Handled, Counts, FindsInitial, FoldsInitial, DoneIsClosed};
+ghost use Rattle.fold_core.specs.Facts.{Always, Pointers, Chains, NoDouble, Origins, Handled, Counts, FindsInitial, FoldsInitial, DoneIsClosed, OneState};
 
 use crate::folding::Folding;
+
+/// A history leads to one state, so each event says what becomes of the state before it.
+pub fn one_state<F: Folding>()
+    ensures { (f : F) → Always (F.rules f) (λ roots budget history core. OneState (F.rules f) roots budget history core) }
+{}
 
 /// Each retired entry points to a later entry, which covers it and is live or was retired at the
 /// same event or a later one.

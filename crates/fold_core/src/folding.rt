@@ -10,6 +10,7 @@ use std::alloc::Global;
 pub trait Folding: Sized {
     type Item: Drop;
 
+    // What the calls below mean: covers, initial and expansion.
     ghost rules: { Self → Rules Self.Item };
 
     /// The same rules once more.
@@ -40,5 +41,6 @@ pub trait Folding: Sized {
     fn expand(&self, alloc: Global, item: &Self::Item) -> Result<List<Self::Item>, ExpandFail>
         ensures { Expands result ((rules self.now).expansion item.now) };
 
+    // Covers is reflexive and transitive, and what covers an initial item is initial.
     ghost lawful: { (f : Self) → Lawful (rules f) };
 }
