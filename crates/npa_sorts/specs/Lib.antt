@@ -1,0 +1,2 @@
+pub mod Subsorts
+pub mod Table

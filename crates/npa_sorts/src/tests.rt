@@ -1,0 +1,31 @@
+use super::*;
+use npa_list::List;
+
+#[test]
+fn orders_sorts(rt: HostRuntime) -> Result<(), SortFail> {
+    let alloc = rt.alloc();
+    let pairs = List::from_slice(alloc, &[(4, 2), (4, 3), (5, 2), (5, 3)])?;
+    let sorts = Sorts::new(alloc, 4, &pairs)?;
+    assert!(&rt; sorts.declared() == 4);
+    assert!(&rt; sorts.pairs().as_slice() == [(4, 2), (4, 3), (5, 2), (5, 3)].as_slice());
+    assert!(&rt; sorts.le(4, 2) && sorts.le(4, MSG) && sorts.le(FRESH, FRESH));
+    assert!(&rt; !sorts.le(2, 4) && !sorts.le(2, 3) && !sorts.le(FRESH, MSG));
+    assert!(&rt; sorts.maximal_lower(alloc, 2, 3)?.as_slice() == [4, 5].as_slice());
+    assert!(&rt; sorts.maximal_lower(alloc, 2, FRESH)?.is_empty());
+    sorts.laws();
+    Ok(())
+}
+
+#[test]
+fn refuses_cycles_and_fresh(rt: HostRuntime) -> Result<(), SortFail> {
+    let alloc = rt.alloc();
+    let cycle = List::from_slice(alloc, &[(2, 3), (3, 2)])?;
+    assert!(&rt; matches!(Sorts::new(alloc, 2, &cycle), Err(SortFail::Cycle(2))));
+    let itself = List::from_slice(alloc, &[(2, MSG), (3, 3)])?;
+    assert!(&rt; matches!(Sorts::new(alloc, 2, &itself), Err(SortFail::Cycle(3))));
+    let below = List::from_slice(alloc, &[(MSG, 2)])?;
+    assert!(&rt; matches!(Sorts::new(alloc, 2, &below), Err(SortFail::Cycle(MSG))));
+    let fresh = List::from_slice(alloc, &[(2, 2), (2, FRESH)])?;
+    assert!(&rt; matches!(Sorts::new(alloc, 2, &fresh), Err(SortFail::Fresh(1))));
+    Ok(())
+}
