@@ -8,3 +8,6 @@ pub mod Later
 pub mod Decimals
 pub mod Spellings
 pub mod Lexings
+pub mod Fronts
+pub mod RawLaws
+pub mod TermFronts

@@ -13,3 +13,6 @@ pub mod MemPuts
 pub mod Terminals
 pub mod ReservedRows
 pub mod Languages
+pub mod Parses
+pub mod Raws
+pub mod RawTerms

@@ -10,10 +10,13 @@ mod name;
 mod number;
 mod numeral;
 mod outside;
+mod parser;
 mod place;
+mod raws;
 mod real;
 mod scan;
 pub mod symbols;
+mod term_reader;
 pub mod terminals;
 mod token;
 mod words;
@@ -24,11 +27,16 @@ pub use memory::{Marks, MemEntries, MemEntry, MemFiles, MemSink};
 pub use name::{Name, Names, Word, Words};
 pub use number::put_number;
 pub use outside::{Files, PutFail, ReadFail, Sink};
+pub use parser::{Parsed, parse};
 pub use place::{Place, end_place};
+pub use raws::{raw_of, token_at, token_of};
 pub use real::{RealFiles, RealOut};
 pub use scan::{lex, tokens};
+pub use term_reader::raw_term;
 pub use token::{Kind, Lexed, MOST_BYTES, Raw, Raws, Token, Tokens, number_of, token_text};
 pub use words::{terminal_kind, word_kind};
 
+#[cfg(test)]
+mod parser_tests;
 #[cfg(test)]
 mod tests;
