@@ -1,5 +1,5 @@
 -- Tokens and their terminals: a fault of the terminals is one of the text.
-use Rattle.std.proofs.Common.{◌≡◌, ℕ, zero, suc, ◌+◌, ◌<◌, ◌≤◌, List, [], ◌∷◌, ◌++◌, length, take, drop, Option, Some, None, Result, Err, refl, sym, ap, ◌∙◌, subst, append-nil, take-append-drop, arith, length-append}
+use Rattle.std.proofs.Common.{◌≡◌, ℕ, zero, suc, ◌+◌, ◌≤◌, List, [], ◌∷◌, ◌++◌, length, take, drop, Option, Some, None, Err, refl, sym, ap, ◌∙◌, subst, append-nil, take-append-drop, arith, length-append}
 use Rattle.npa_syntax.specs.declared.node.Terminal.{Terminal}
 use Rattle.npa_syntax.specs.declared.node.Node.{Node}
 use Rattle.npa_syntax.specs.Grammars.{Begins, GoesOn}
@@ -7,14 +7,13 @@ use Rattle.npa_syntax.specs.Languages.{Language, rules_in, start_in, IsText, Fau
 use Rattle.npa_syntax.specs.declared.fault.ReadFault.{ReadFault}
 use Rattle.npa_syntax.specs.declared.fault.ReadFault.TheVariants as read_fault
 use Rattle.npa_syntax.specs.Answers.{PlacesFault}
-use Rattle.npa_text.specs.declared.token.Kind.{Kind}
 use Rattle.npa_text.specs.declared.token.Token.{Token}
 use Rattle.npa_text.specs.declared.place.Place.{Place}
 use Rattle.npa_text.specs.declared.fault.TextFault.{TextFault}
 use Rattle.npa_text.specs.declared.fault.TextFault.TheVariants.{Syntax}
 use Rattle.npa_text.specs.declared.parser.Parsed.{Parsed}
 use Rattle.npa_text.specs.Places.{first_place}
-use Rattle.npa_text.specs.Scans.{Lexes, ended, blank, comment, token, stuck}
+use Rattle.npa_text.specs.Lexing.{Lexes, ended, blank, comment, token, stuck}
 use Rattle.npa_text.specs.Terminals.{terminal_of}
 use Rattle.npa_text.specs.Parses.{terminals_from, place_at, CannotGoOn, StopsBehind, IsFirstFault, PlacesFirstFault}
 use Rattle.npa_text.proofs.Spellings.{begun}

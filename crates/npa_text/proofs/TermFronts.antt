@@ -1,5 +1,5 @@
 -- The term at the front of the tokens that are left.
-use Rattle.std.proofs.Common.{◌≡◌, ℕ, zero, suc, ◌+◌, ◌-◌, ◌<◌, ◌≤◌, true, List, [], ◌∷◌, length, drop, get_or, Some, None, Err, refl, sym, ap, ◌∙◌, subst, take-append-drop, arith, length-drop}
+use Rattle.std.proofs.Common.{◌≡◌, ℕ, ◌+◌, ◌-◌, ◌≤◌, List, [], ◌∷◌, length, drop, get_or, None, Err, refl, sym, ap, ◌∙◌, subst, take-append-drop, arith, length-drop}
 use Rattle.std.specs.Prelude.{take}
 use Rattle.std.proofs.lemmas.List.{drop-drop}
 use Rattle.npa_syntax.specs.declared.node.Terminal.{Terminal}
@@ -7,7 +7,7 @@ use Rattle.npa_syntax.specs.declared.node.Node.{Node}
 use Rattle.npa_syntax.specs.declared.fault.ReadFault.{ReadFault}
 use Rattle.npa_syntax.specs.declared.fault.ReadFault.TheVariants as read_fault
 use Rattle.npa_syntax.specs.Grammars.{Piece, Rules, Spells, nothing, without, taking}
-use Rattle.npa_syntax.specs.Languages.{Language, rules_in, IsText, FaultAt, IsFront}
+use Rattle.npa_syntax.specs.Languages.{Language, IsText, FaultAt, IsFront}
 use Rattle.npa_syntax.specs.Answers.{PlacesFault}
 use Rattle.npa_syntax.specs.Tables.{piece, one}
 use Rattle.npa_syntax.proofs.Shapes.{needed_piece}
@@ -17,9 +17,9 @@ use Rattle.npa_text.specs.declared.token.Raw.{Raw}
 use Rattle.npa_text.specs.declared.fault.TextFault.{TextFault}
 use Rattle.npa_text.specs.declared.fault.TextFault.TheVariants.{Syntax}
 use Rattle.npa_text.specs.Languages.{term_language}
-use Rattle.npa_text.specs.Parses.{terminals_from, place_at, StopsBehind}
+use Rattle.npa_text.specs.Parses.{terminals_from, place_at}
 use Rattle.npa_text.specs.Raws.{raw_of}
-use Rattle.npa_text.specs.RawTerms.{IsTermAt, IsTermFault, PlacesTermFault}
+use Rattle.npa_text.specs.RawTerms.{IsTermAt, PlacesTermFault}
 use Rattle.npa_text.proofs.Fronts.{terminals_length, stops_there}
 
 no_pieces : {rules : Rules} {xs : List Piece} {ts : List Terminal} {ns : List Node} → Spells rules xs ts ns → xs ≡ [] → ns ≡ []

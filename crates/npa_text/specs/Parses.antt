@@ -11,7 +11,7 @@ use Rattle.npa_text.specs.declared.fault.TextFault.{TextFault}
 use Rattle.npa_text.specs.declared.fault.TextFault.TheVariants.{Syntax, NoMemory}
 use Rattle.npa_text.specs.declared.parser.Parsed.{Parsed}
 use Rattle.npa_text.specs.Places.{first_place, end_place}
-use Rattle.npa_text.specs.Scans.{Lexes}
+use Rattle.npa_text.specs.Lexing.{Lexes, AreTokens}
 use Rattle.npa_text.specs.Terminals.{terminal_of}
 
 -- the terminals of tokens the first of which stands at a place of their list
@@ -25,7 +25,7 @@ terminals_of bytes tokens = terminals_from 0 bytes tokens
 
 -- The bytes are a text of the language: these tokens throughout, and these trees of their terminals.
 pub record IsParse (l : Language) (bytes : List ℕ) (tokens : List Token) (nodes : List Node) : Type 0 where
-  pub lexes : Lexes 0 first_place bytes tokens None
+  pub lexes : AreTokens bytes tokens
   pub text : IsText l (terminals_of bytes tokens) nodes
 
 -- ## The first fault

@@ -1,5 +1,5 @@
 -- The term that begins at a token of a text.
-use Rattle.std.specs.Prelude.{ℕ, ◌≡◌, ◌+◌, List, [], ◌∷◌, ◌++◌, drop, Option, None, Result, Ok, Err}
+use Rattle.std.specs.Prelude.{ℕ, ◌≡◌, ◌+◌, List, [], ◌∷◌, ◌++◌, drop, None, Result, Ok, Err}
 use Rattle.npa_syntax.specs.declared.node.Node.{Node}
 use Rattle.npa_syntax.specs.Languages.{IsFront}
 use Rattle.npa_text.specs.declared.token.Token.{Token}

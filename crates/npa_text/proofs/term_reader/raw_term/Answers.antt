@@ -1,4 +1,4 @@
-use Rattle.std.proofs.Common.{◌≡◌, ◌∙◌, ◌+◌, ◌-◌, ◌≤◌, ap, drop, length, arith}
+use Rattle.std.proofs.Common.{◌≡◌, ◌∙◌, ◌-◌, ◌≤◌, ap, drop, length, arith}
 use Rattle.npa_syntax.specs.Languages.{language}
 use Rattle.npa_text.specs.Parses.{terminals_from}
 use Rattle.npa_text.proofs.Fronts.{few}
