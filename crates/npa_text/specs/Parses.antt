@@ -80,3 +80,14 @@ abbrev pub PlacesFirstFault : {A : Type 0} → Language → List ℕ → Result 
 PlacesFirstFault l bytes (Ok found) = Unit {0}
 PlacesFirstFault l bytes (Err (Syntax line col)) = IsFirstFault l bytes line col
 PlacesFirstFault l bytes (Err NoMemory) = Unit {0}
+
+-- this place is the answer, unless memory was wanting
+abbrev pub Refuses : {A : Type 0} → Result A TextFault → ℕ → ℕ → Type 0
+Refuses (Ok found) line col = ⊥
+Refuses (Err (Syntax at_line at_col)) line col = (at_line ≡ line) × (at_col ≡ col)
+Refuses (Err NoMemory) line col = Unit {0}
+
+-- Wherever the bytes have their first fault is answered; so there is one such place, and a text of the
+-- language has none.
+pub record AnswersFirstFault (l : Language) (bytes : List ℕ) (result : Result Parsed TextFault) : Type 0 where
+  pub every : (line col : ℕ) → IsFirstFault l bytes line col → Refuses result line col
