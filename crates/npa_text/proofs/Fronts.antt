@@ -1,5 +1,5 @@
 -- Tokens and their terminals: a fault of the terminals is one of the text.
-use Rattle.std.proofs.Common.{◌≡◌, ℕ, zero, suc, ◌+◌, ◌<◌, ◌≤◌, List, [], ◌∷◌, ◌++◌, length, take, drop, Option, Some, None, Result, Err, refl, sym, ap, ◌∙◌, subst, append-nil, take-append-drop, arith, length-append}
+use Rattle.std.proofs.Common.{◌≡◌, ℕ, zero, suc, ◌+◌, ◌≤◌, List, [], ◌∷◌, ◌++◌, length, take, drop, Option, Some, None, Err, refl, sym, ap, ◌∙◌, subst, append-nil, take-append-drop, arith, length-append}
 use Rattle.npa_syntax.specs.declared.node.Terminal.{Terminal}
 use Rattle.npa_syntax.specs.declared.node.Node.{Node}
 use Rattle.npa_syntax.specs.Grammars.{Begins, GoesOn}
@@ -7,7 +7,6 @@ use Rattle.npa_syntax.specs.Languages.{Language, rules_in, start_in, IsText, Fau
 use Rattle.npa_syntax.specs.declared.fault.ReadFault.{ReadFault}
 use Rattle.npa_syntax.specs.declared.fault.ReadFault.TheVariants as read_fault
 use Rattle.npa_syntax.specs.Answers.{PlacesFault}
-use Rattle.npa_text.specs.declared.token.Kind.{Kind}
 use Rattle.npa_text.specs.declared.token.Token.{Token}
 use Rattle.npa_text.specs.declared.place.Place.{Place}
 use Rattle.npa_text.specs.declared.fault.TextFault.{TextFault}
@@ -16,7 +15,7 @@ use Rattle.npa_text.specs.declared.parser.Parsed.{Parsed}
 use Rattle.npa_text.specs.Places.{first_place}
 use Rattle.npa_text.specs.Lexing.{Lexes, ended, blank, comment, token, stuck}
 use Rattle.npa_text.specs.Terminals.{terminal_of}
-use Rattle.npa_text.specs.Parses.{terminals_from, place_at, CannotGoOn, StopsBehind, IsFirstFault, PlacesFirstFault}
+use Rattle.npa_text.specs.Parses.{terminals_from, place_at, CannotGoOn, StopsBehind, IsParse, IsFirstFault, PlacesFirstFault}
 use Rattle.npa_text.proofs.Spellings.{begun}
 
 -- a text has no more tokens than bytes
@@ -40,7 +39,7 @@ terminals_behind from n bytes ts = let e : from + 1 + n ≡ from + suc n = omega
 terminals_here : (from : ℕ) (bytes : List ℕ) (ts : List Token) → terminals_from from bytes ts ≡ terminals_from (from + 0) bytes ts
 terminals_here from bytes ts = let e : from ≡ from + 0 = omega arith in ap (λ (m : ℕ). terminals_from m bytes ts) e
 
-terminals_append : (from : ℕ) (bytes : List ℕ) (ts us : List Token)
+pub terminals_append : (from : ℕ) (bytes : List ℕ) (ts us : List Token)
     → terminals_from from bytes (ts ++ us) ≡ terminals_from from bytes ts ++ terminals_from (from + length ts) bytes us
 terminals_append from bytes [] us = terminals_here from bytes us
 terminals_append from bytes (t ∷ ts) us =
@@ -127,3 +126,11 @@ token_fault l bytes tokens given terminals broken p nodes d e is text at =
     fault_behind l bytes given p nodes
     (subst (λ (x : Option Place). Lexes 0 first_place bytes given x) at (subst (λ ts. Lexes 0 first_place bytes ts broken) (sym e) d))
     (subst (λ ts. IsText l ts nodes) is text)
+
+pub text_found : (l : Language) (bytes : List ℕ) (tokens given : List Token) (terminals : List Terminal) (broken : Option Place) (nodes : List Node)
+    → Lexes 0 first_place bytes tokens broken → given ≡ tokens → terminals ≡ terminals_from 0 bytes given → IsText l terminals nodes
+    → broken ≡ None → IsParse l bytes tokens nodes
+text_found l bytes tokens given terminals broken nodes d e is text none = record {
+  lexes = subst (λ (x : Option Place). Lexes 0 first_place bytes tokens x) none d;
+  text = subst (λ ts. IsText l ts nodes) (is ∙ ap (terminals_from 0 bytes) e) text;
+}

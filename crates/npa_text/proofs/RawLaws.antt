@@ -1,11 +1,11 @@
 -- The terms that nodes stand for, one node after another.
-use Rattle.std.proofs.Common.{◌≡◌, ℕ, ◌+◌, ◌<◌, Bool, true, false, cond, List, [], ◌∷◌, ◌++◌, map, length, drop, get_or, refl, sym, ap, ◌∙◌, append_assoc, drop-cons, add-one}
+use Rattle.std.proofs.Common.{◌≡◌, ℕ, ◌+◌, ◌<◌, true, false, cond, List, [], ◌∷◌, ◌++◌, length, drop, get_or, refl, sym, ap, ◌∙◌, append_assoc, drop-cons, add-one}
 use Rattle.npa_syntax.specs.declared.node.Node.{Node}
-use Rattle.npa_syntax.specs.Nodes.{symbol_of, head_of, children_of}
+use Rattle.npa_syntax.specs.Nodes.{symbol_of, children_of}
 use Rattle.npa_syntax.proofs.Folds.{fold_node_at}
 use Rattle.npa_text.specs.declared.token.Token.{Token}
 use Rattle.npa_text.specs.declared.token.Raw.{Raw}
-use Rattle.npa_text.specs.Raws.{is_term, term_with, token_at, token_of, joined, terms_over, terms_in, terms_of, raw_of}
+use Rattle.npa_text.specs.Raws.{is_term, term_with, token_at, terms_over, terms_in, terms_of, raw_of}
 
 -- what a node stands for, by its children
 terms_at : (tokens : List Token) (n : Node)

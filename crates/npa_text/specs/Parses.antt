@@ -11,7 +11,7 @@ use Rattle.npa_text.specs.declared.fault.TextFault.{TextFault}
 use Rattle.npa_text.specs.declared.fault.TextFault.TheVariants.{Syntax, NoMemory}
 use Rattle.npa_text.specs.declared.parser.Parsed.{Parsed}
 use Rattle.npa_text.specs.Places.{first_place, end_place}
-use Rattle.npa_text.specs.Lexing.{Lexes}
+use Rattle.npa_text.specs.Lexing.{Lexes, AreTokens}
 use Rattle.npa_text.specs.Terminals.{terminal_of}
 
 -- the terminals of tokens the first of which stands at a place of their list
@@ -25,7 +25,7 @@ terminals_of bytes tokens = terminals_from 0 bytes tokens
 
 -- The bytes are a text of the language: these tokens throughout, and these trees of their terminals.
 pub record IsParse (l : Language) (bytes : List ℕ) (tokens : List Token) (nodes : List Node) : Type 0 where
-  pub lexes : Lexes 0 first_place bytes tokens None
+  pub lexes : AreTokens bytes tokens
   pub text : IsText l (terminals_of bytes tokens) nodes
 
 -- ## The first fault
@@ -80,3 +80,14 @@ abbrev pub PlacesFirstFault : {A : Type 0} → Language → List ℕ → Result 
 PlacesFirstFault l bytes (Ok found) = Unit {0}
 PlacesFirstFault l bytes (Err (Syntax line col)) = IsFirstFault l bytes line col
 PlacesFirstFault l bytes (Err NoMemory) = Unit {0}
+
+-- this place is the answer, unless memory was wanting
+abbrev pub Refuses : {A : Type 0} → Result A TextFault → ℕ → ℕ → Type 0
+Refuses (Ok found) line col = ⊥
+Refuses (Err (Syntax at_line at_col)) line col = (at_line ≡ line) × (at_col ≡ col)
+Refuses (Err NoMemory) line col = Unit {0}
+
+-- Wherever the bytes have their first fault is answered; so there is one such place, and a text of the
+-- language has none.
+pub record AnswersFirstFault (l : Language) (bytes : List ℕ) (result : Result Parsed TextFault) : Type 0 where
+  pub every : (line col : ℕ) → IsFirstFault l bytes line col → Refuses result line col

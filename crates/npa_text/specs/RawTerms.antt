@@ -1,7 +1,7 @@
 -- The term that begins at a token of a text.
-use Rattle.std.specs.Prelude.{ℕ, ◌≡◌, ◌+◌, List, [], ◌∷◌, ◌++◌, drop, Option, None, Result, Ok, Err}
+use Rattle.std.specs.Prelude.{ℕ, ◌≡◌, ◌+◌, List, [], ◌∷◌, ◌++◌, drop, None, Result, Ok, Err}
 use Rattle.npa_syntax.specs.declared.node.Node.{Node}
-use Rattle.npa_syntax.specs.Languages.{IsFront}
+use Rattle.npa_syntax.specs.Languages.{IsText, IsFront}
 use Rattle.npa_text.specs.declared.token.Token.{Token}
 use Rattle.npa_text.specs.declared.token.Raw.{Raw}
 use Rattle.npa_text.specs.declared.fault.TextFault.{TextFault}
@@ -19,12 +19,14 @@ pub record IsTermAt (bytes : List ℕ) (tokens : List Token) (from : ℕ) (term 
   pub end_is : end ≡ from + count
   pub term_is : term ≡ raw_of tokens tree
 
--- The first place behind a token, or at it, at which no term that begins there can go on.
+-- The first place behind a token, or at it, at which no term that begins there can go on, where what
+-- stands in front of that place is no term itself.
 pub record IsTermFault (bytes : List ℕ) (tokens : List Token) (from line col : ℕ) : Type 0 where
   pub front : List Token
   pub left : List Token
   pub all : drop from tokens ≡ front ++ left
   pub stops : StopsBehind term_language bytes from front left None line col
+  pub unfinished : (trees : List Node) → IsText term_language (terminals_from from bytes front) trees → ⊥
 
 -- this term and this end are the answer, unless memory was wanting
 abbrev pub GivesTerm : Result Raw TextFault → ℕ → Raw → ℕ → Type 0

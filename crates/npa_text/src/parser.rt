@@ -1,7 +1,7 @@
 ghost use Rattle.std.specs.Prelude.{◌≡◌, ◌≤◌, length, drop, List, Option, None, IfOk};
 ghost use Rattle.npa_syntax.specs.Languages.{language};
 ghost use Rattle.npa_text.specs.declared.fault.TextFault.TheVariants.{Syntax};
-ghost use Rattle.npa_text.specs.Parses.{terminals_from, place_at, IsParse, AnswersParse, PlacesFirstFault};
+ghost use Rattle.npa_text.specs.Parses.{terminals_from, place_at, IsParse, AnswersParse, AnswersFirstFault, PlacesFirstFault};
 
 use crate::fault::{NoMemory, TextFault};
 use crate::place::{Place, end_place};
@@ -72,6 +72,7 @@ pub fn parse(alloc: Global, grammar: &Grammar, bytes: &[u8]) -> Result<Parsed, T
     ensures found { IfOk result (λ parsed. IsParse (language grammar.now) bytes.now parsed.tokens parsed.nodes) }
     ensures only { AnswersParse (language grammar.now) bytes.now result }
     ensures fault { PlacesFirstFault (language grammar.now) bytes.now result }
+    ensures refuses { AnswersFirstFault (language grammar.now) bytes.now result }
 {
     let Lexed { tokens, fault } = lex(alloc, bytes)?;
     let terminals = terminals_from(alloc, bytes, tokens.as_slice(), 0)?;

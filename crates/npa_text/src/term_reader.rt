@@ -1,6 +1,5 @@
-ghost use Rattle.std.specs.Prelude.{◌≡◌, ◌≤◌, length, None, IfOk, OnErr};
-ghost use Rattle.npa_text.specs.Places.{first_place};
-ghost use Rattle.npa_text.specs.Lexing.{Lexes};
+ghost use Rattle.std.specs.Prelude.{◌≡◌, ◌≤◌, length, IfOk, OnErr};
+ghost use Rattle.npa_text.specs.Lexing.{AreTokens};
 ghost use Rattle.npa_text.specs.RawTerms.{IsTermAt, AnswersTerm, PlacesTermFault};
 
 use crate::fault::TextFault;
@@ -22,7 +21,7 @@ pub fn raw_term(
     at: &mut u32,
 ) -> Result<Raw, TextFault>
     requires bytes { length bytes.now ≤ 1048576 }
-    requires tokens { Lexes 0 first_place bytes.now tokens.now None }
+    requires tokens { AreTokens bytes.now tokens.now }
     ensures found { IfOk result (λ term. IsTermAt bytes.now tokens.now at.old term at.new) }
     ensures only { AnswersTerm bytes.now tokens.now at.old result at.new }
     ensures fault { PlacesTermFault bytes.now tokens.now at.old result }

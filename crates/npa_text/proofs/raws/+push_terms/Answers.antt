@@ -1,4 +1,4 @@
-use Rattle.std.proofs.Common.{◌≡◌, [], sym, ◌∙◌}
+use Rattle.std.proofs.Common.{◌≡◌, sym, ◌∙◌}
 use Rattle.npa_syntax.specs.Nodes.{children_of}
 use Rattle.npa_text.proofs.RawLaws.{term_next, others_next}
 use Rattle.npa_text.proofs.raws.+push_terms.Goals as goal

@@ -1,4 +1,4 @@
-use Rattle.std.proofs.Common.{◌≡◌, ◌∙◌, ◌+◌, ◌-◌, ◌≤◌, ap, drop, length, arith}
+use Rattle.std.proofs.Common.{◌≡◌, ◌∙◌, ◌-◌, ◌≤◌, ap, drop, length, arith}
 use Rattle.npa_syntax.specs.Languages.{language}
 use Rattle.npa_text.specs.Parses.{terminals_from}
 use Rattle.npa_text.proofs.Fronts.{few}
@@ -14,7 +14,7 @@ returns-in-Err-Syntax-clause-fault c =
     let made : c.as_slice-2.result.now ≡ terminals_from c.args.at.now c.args.bytes.now (drop c.args.at.now c.as_slice-in-Err-Syntax.result.now) =
     c.as_slice-2.ensures.value ∙ c.in_ok-terminals.ensures ∙ ap (λ ts. terminals_from c.args.at.now c.args.bytes.now (drop c.args.at.now ts)) same in
     term_fault (language c.term_grammar.result) c.args.bytes.now c.args.tokens.now c.as_slice-in-Err-Syntax.result.now c.args.at.now c.as_slice-2.result.now c.term_grammar.ensures
-    c.as_slice-in-Err-Syntax.ensures made c.in-Err-Syntax.field-0 c.in-Err-Syntax.passed c.fault_at.result c.in-Err-Syntax.ensures.fault c.in-Err-Syntax.field-0-is (rw c.in-Err-Syntax.passed-is at c.fault_at.ensures)
+    c.as_slice-in-Err-Syntax.ensures made c.in-Err-Syntax.field-0 c.in-Err-Syntax.passed c.fault_at.result c.in-Err-Syntax.ensures.fault c.in-Err-Syntax.ensures.only c.in-Err-Syntax.field-0-is (rw c.in-Err-Syntax.passed-is at c.fault_at.ensures)
 
 pub bounds-as_slice-0 : goal.bounds-as_slice-0
 bounds-as_slice-0 c =
