@@ -8,7 +8,7 @@ mod reader;
 mod source;
 mod strands;
 mod terms;
-mod trees;
+pub mod trees;
 
 pub use reader::read;
 pub use source::{ReadError, Source};

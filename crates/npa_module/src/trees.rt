@@ -5,9 +5,9 @@ use npa_syntax::{Node, child_of};
 use npa_text::{Tokens, token_at, token_text};
 use std::alloc::{AllocError, Global};
 
-// The nodes for a nonterminal, in order.
+/// The nodes for a nonterminal, in order.
 #[tactic(auto, using(crate::proofs::Walks::all_with_step))]
-pub(crate) fn all_with<'a>(
+pub fn all_with<'a>(
     alloc: Global,
     symbol: u8,
     nodes: &'a [Node],
@@ -23,9 +23,9 @@ pub(crate) fn all_with<'a>(
     Ok(found)
 }
 
-// The nodes for a nonterminal, in order, where the further ones stand below nodes of their own.
+/// The nodes for a nonterminal, in order, where the further ones stand below nodes of their own.
 #[tactic(auto, using(crate::proofs::Walks::listed_step))]
-pub(crate) fn listed<'a>(
+pub fn listed<'a>(
     alloc: Global,
     symbol: u8,
     next: u8,
@@ -45,15 +45,15 @@ pub(crate) fn listed<'a>(
     Ok(found)
 }
 
-// Whether there is a node for a nonterminal.
-pub(crate) fn has(symbol: u8, nodes: &[Node]) -> bool
+/// Whether there is a node for a nonterminal.
+pub fn has(symbol: u8, nodes: &[Node]) -> bool
     ensures { result ≡ has symbol nodes.now }
 {
     child_of(nodes, symbol).is_some()
 }
 
-// The children of the first node for a nonterminal.
-pub(crate) fn below(symbol: u8, nodes: &[Node]) -> &[Node]
+/// The children of the first node for a nonterminal.
+pub fn below(symbol: u8, nodes: &[Node]) -> &[Node]
     ensures { result.now ≡ below symbol nodes.now }
 {
     match child_of(nodes, symbol) {
@@ -62,15 +62,15 @@ pub(crate) fn below(symbol: u8, nodes: &[Node]) -> &[Node]
     }
 }
 
-// The word with which a node begins.
-pub(crate) fn word_at<'a>(bytes: &'a [u8], tokens: &Tokens, node: &Node) -> &'a [u8]
+/// The word with which a node begins.
+pub fn word_at<'a>(bytes: &'a [u8], tokens: &Tokens, node: &Node) -> &'a [u8]
     ensures { result.now ≡ word_at bytes.now tokens.now node.now }
 {
     token_text(bytes, token_at(tokens, node))
 }
 
-// The word with which the first node for a nonterminal begins.
-pub(crate) fn word_of<'a>(bytes: &'a [u8], tokens: &Tokens, symbol: u8, nodes: &[Node]) -> &'a [u8]
+/// The word with which the first node for a nonterminal begins.
+pub fn word_of<'a>(bytes: &'a [u8], tokens: &Tokens, symbol: u8, nodes: &[Node]) -> &'a [u8]
     ensures { result.now ≡ word_of bytes.now tokens.now symbol nodes.now }
 {
     match child_of(nodes, symbol) {

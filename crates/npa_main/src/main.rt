@@ -1,0 +1,8 @@
+//! The analyser's program.
+#![tactic(auto)]
+
+mod run_text;
+
+fn main(rt: HostRuntime) {
+    let _ = rt;
+}
