@@ -11,3 +11,4 @@ pub mod Lexings
 pub mod Fronts
 pub mod RawLaws
 pub mod TermFronts
+pub mod Sizes

@@ -2,6 +2,7 @@ use Rattle.std.proofs.Common.{◌≡◌, ◌∙◌, ap}
 use Rattle.npa_syntax.specs.Languages.{language}
 use Rattle.npa_text.specs.Parses.{terminals_from}
 use Rattle.npa_text.proofs.Fronts.{few, grammar_fault, token_fault}
+use Rattle.npa_text.proofs.Sizes.{few_trees}
 use Rattle.npa_text.proofs.parser.parse.Goals as goal
 
 pub terminals_from-requires : goal.terminals_from-requires
@@ -26,3 +27,11 @@ returns-in-Some-clause-fault c =
     token_fault (language c.args.grammar.now) c.args.bytes.now c.in_ok-tokens.field-0.tokens c.as_slice.result.now c.as_slice-2.result.now
     c.in_ok-tokens.field-0.fault c.in-Some.field-0 c.in-Ok.nodes
     c.in_ok-tokens.ensures.rule given terminals c.in-Ok.ensures.found c.in-Some.is
+
+pub returns-clause-few : goal.returns-clause-few
+returns-clause-few c =
+    let given : c.as_slice.result.now ≡ c.in_ok-tokens.field-0.tokens = cc in
+    let terminals : c.as_slice-2.result.now ≡ terminals_from 0 c.args.bytes.now c.as_slice.result.now = c.as_slice-2.ensures.value ∙ c.in_ok-terminals.ensures in
+    few_trees (language c.args.grammar.now) c.args.bytes.now c.in_ok-tokens.field-0.tokens c.as_slice.result.now c.as_slice-2.result.now
+    c.in_ok-tokens.field-0.fault c.in-Ok.nodes
+    c.in_ok-tokens.ensures.rule given terminals c.in-Ok.ensures.found c.requires
