@@ -148,7 +148,7 @@ fn strand_of(name: &[u8], strands: &[Strand]) -> Option<u16>
 }
 
 // The names of a strand's parameters.
-fn params_at(protocol: &Protocol, strand: u16) -> &[Name]
+pub(crate) fn params_at(protocol: &Protocol, strand: u16) -> &[Name]
     ensures { result.now ≡ params_at protocol.now strand }
 {
     match protocol.strands.get(strand as usize) {

@@ -1,4 +1,5 @@
-ghost use Rattle.std.specs.Prelude.{◌≡◌, map, None, Some};
+ghost use Rattle.std.specs.Prelude.{◌≡◌, map, [], None, Some, IfOk};
+ghost use Rattle.npa_term.specs.Variables.{IsGround};
 ghost use Rattle.npa_sig.specs.Meaning.{read, Gives, head_of, variable_of, operator_of, sort_at, fits, all_fit, one_fits, unknown, unfit, Tells};
 
 use crate::fault::UseFail;
@@ -28,6 +29,7 @@ enum Head {
 /// The term that a term of a text stands for. A word stands for the variable that the scope gives
 /// it, or else for the operator of that name. A refusal names the first word at fault, in the
 /// order of the text; a wrong number or sort of arguments is a fault of the word that has them.
+#[tactic(auto, using(crate::proofs::Grounds::ground_answer))]
 pub fn resolve(
     alloc: Global,
     sig: &Sig,
@@ -35,7 +37,8 @@ pub fn resolve(
     bytes: &[u8],
     raw: &Raw,
 ) -> Result<Term, UseFail>
-    ensures { Gives result (read sig.now scope.now bytes.now raw.now) }
+    ensures means { Gives result (read sig.now scope.now bytes.now raw.now) }
+    ensures ground { scope.now ≡ [] → IfOk result IsGround }
 {
     read(alloc, sig, scope.as_slice(), bytes, raw)
 }

@@ -12,3 +12,4 @@ pub mod Fronts
 pub mod RawLaws
 pub mod TermFronts
 pub mod FirstFaults
+pub mod Sizes

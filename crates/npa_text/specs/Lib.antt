@@ -16,3 +16,4 @@ pub mod Languages
 pub mod Parses
 pub mod Raws
 pub mod RawTerms
+pub mod Sizes

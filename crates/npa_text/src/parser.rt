@@ -2,6 +2,7 @@ ghost use Rattle.std.specs.Prelude.{◌≡◌, ◌≤◌, length, drop, List, Op
 ghost use Rattle.npa_syntax.specs.Languages.{language};
 ghost use Rattle.npa_text.specs.declared.fault.TextFault.TheVariants.{Syntax};
 ghost use Rattle.npa_text.specs.Parses.{terminals_from, place_at, IsParse, AnswersParse, AnswersFirstFault, PlacesFirstFault};
+ghost use Rattle.npa_text.specs.Sizes.{IsFew};
 
 use crate::fault::{NoMemory, TextFault};
 use crate::place::{Place, end_place};
@@ -73,6 +74,7 @@ pub fn parse(alloc: Global, grammar: &Grammar, bytes: &[u8]) -> Result<Parsed, T
     ensures only { AnswersParse (language grammar.now) bytes.now result }
     ensures fault { PlacesFirstFault (language grammar.now) bytes.now result }
     ensures refuses { AnswersFirstFault (language grammar.now) bytes.now result }
+    ensures few { IfOk result (λ parsed. IsFew parsed.nodes) }
 {
     let Lexed { tokens, fault } = lex(alloc, bytes)?;
     let terminals = terminals_from(alloc, bytes, tokens.as_slice(), 0)?;

@@ -4,6 +4,7 @@ use Rattle.npa_text.specs.declared.fault.TextFault.TheVariants.{Syntax}
 use Rattle.npa_text.specs.Parses.{terminals_from}
 use Rattle.npa_text.proofs.FirstFaults.{refuses_there}
 use Rattle.npa_text.proofs.Fronts.{few, grammar_fault, token_fault, text_found}
+use Rattle.npa_text.proofs.Sizes.{few_trees}
 use Rattle.npa_text.proofs.parser.parse.Goals as goal
 
 pub terminals_from-requires : goal.terminals_from-requires
@@ -43,3 +44,11 @@ returns-clause-refuses c =
     let text = text_found (language c.args.grammar.now) c.args.bytes.now c.in_ok-tokens.field-0.tokens c.as_slice.result.now c.as_slice-2.result.now c.in_ok-tokens.field-0.fault c.in-Ok.nodes
     c.in_ok-tokens.ensures.rule given terminals c.in-Ok.ensures.found c.in-None.is in
     refuses_there (language c.args.grammar.now) c.args.bytes.now (Ok (record { tokens = c.in_ok-tokens.field-0.tokens; nodes = c.in-Ok.nodes })) text tt
+
+pub returns-clause-few : goal.returns-clause-few
+returns-clause-few c =
+    let given : c.as_slice.result.now ≡ c.in_ok-tokens.field-0.tokens = cc in
+    let terminals : c.as_slice-2.result.now ≡ terminals_from 0 c.args.bytes.now c.as_slice.result.now = c.as_slice-2.ensures.value ∙ c.in_ok-terminals.ensures in
+    few_trees (language c.args.grammar.now) c.args.bytes.now c.in_ok-tokens.field-0.tokens c.as_slice.result.now c.as_slice-2.result.now
+    c.in_ok-tokens.field-0.fault c.in-Ok.nodes
+    c.in_ok-tokens.ensures.rule given terminals c.in-Ok.ensures.found c.requires
