@@ -1,5 +1,6 @@
 ghost use Rattle.std.specs.Prelude.{◌≡◌, ◌≤◌, ◌==◌, ◌||◌, length, IfOk};
 ghost use Rattle.std.specs.List.{list_any};
+ghost use Rattle.npa_module.specs.Forms.{IsPlain};
 ghost use Rattle.npa_module.specs.Items.{Gives, item_read, items_read};
 ghost use Rattle.npa_module.specs.Modules.{IsModule, AnswersModule, is_constant, source_of, empty};
 ghost use Rattle.npa_module.specs.Trees.{seen};
@@ -20,10 +21,12 @@ use std::alloc::Global;
 
 /// Reads a module text. A text that isn't a module, that breaks a rule on names or sorts or passes
 /// a limit, or that has an item or a form that isn't read so far, is `Later`.
+#[tactic(auto, using(crate::proofs::Forms::plain_answer))]
 pub fn read(alloc: Global, bytes: &[u8]) -> Result<Source, ReadError>
     requires { length bytes.now ≤ 1048576 }
     ensures found { IfOk result (IsModule bytes.now) }
     ensures only { AnswersModule bytes.now result }
+    ensures form { IfOk result IsPlain }
 {
     match parse(alloc, &module_grammar(), bytes) {
         Ok(Parsed { tokens, nodes }) => read_tree(alloc, bytes, &tokens, nodes.as_slice()),
