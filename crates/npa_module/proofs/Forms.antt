@@ -1,7 +1,7 @@
 -- Each item that is read keeps the strands and the aims so far within the limits.
-use Rattle.std.proofs.Common.{◌≡◌, ℕ, zero, suc, ◌≤◌, ◌==◌, ◌&&◌, ◌||◌, Bool, true, false, cond, List, [], ◌∷◌, ◌++◌, Option, None, Some, Result, Ok, Err, length, map, refl, ap, subst, arith}
-use Rattle.std.specs.Prelude.{IfSome, IfOk, slice_get, not, nat_lt, nat_le, is_none}
-use Rattle.std.specs.Option.{option_map, option_and_then}
+use Rattle.std.proofs.Common.{◌≡◌, ℕ, ◌<◌, ◌≤◌, ◌==◌, ◌&&◌, ◌||◌, Bool, true, false, List, [], ◌∷◌, ◌++◌, Option, None, Some, Result, Ok, Err, length, length-append, map, refl, subst, arith}
+use Rattle.std.specs.Prelude.{IfSome, IfOk, not, nat_lt, nat_le, is_none}
+use Rattle.std.specs.Option.{option_map}
 use Rattle.std.specs.List.{list_all, list_any}
 use Rattle.std.specs.Str.{bytes_eq}
 use Rattle.std.proofs.lemmas.Bool.Decides.{nat_tests}
@@ -13,6 +13,7 @@ use Rattle.npa_text.specs.declared.terminals.TheConstants as terminal
 use Rattle.npa_text.specs.declared.symbols.TheConstants as symbol
 use Rattle.npa_term.specs.Symbols.{symbol_count}
 use Rattle.npa_sig.specs.declared.protocol.Event.{Event}
+use Rattle.npa_sig.specs.declared.protocol.Strand.{Strand}
 use Rattle.npa_sig.specs.Signature.{Signature, number_of}
 use Rattle.npa_model.specs.declared.aim.Part.{Part}
 use Rattle.npa_model.specs.declared.aim.Part.TheVariants as part
@@ -20,63 +21,10 @@ use Rattle.npa_module.specs.declared.draft.Draft.{Draft}
 use Rattle.npa_module.specs.declared.source.Source.{Source}
 use Rattle.npa_module.specs.declared.source.ReadError.{ReadError}
 use Rattle.npa_module.specs.Trees.{has, listed, below, word_of, kind_of, all_with}
-use Rattle.npa_module.specs.Items.{kept_by, all_some, are_apart, variable_nodes, variable_names, is_msg_variable, messages_count, scope_from, small, term_read, op_rules, op_read, event_read, strand_rules, strand_with, strand_read, aim_rules, part_read, parts_read, aim_read, item_read, items_read, Gives}
+use Rattle.npa_module.specs.Items.{all_some, are_apart, variable_nodes, variable_names, is_msg_variable, messages_count, scope_from, small, term_read, op_rules, op_read, event_read, strand_rules, strand_with, strand_read, aim_rules, part_read, parts_read, aim_read, item_read, items_read, Gives}
 use Rattle.npa_module.specs.Modules.{empty, is_constant, finished, source_of}
+use Rattle.npa_module.proofs.Options.{At, at_none, at_last, kept_if, one_of, then_if, then_any, AreRead, all_read, some_if}
 use Rattle.npa_module.specs.Forms.{IsKnown, IsPlainStrand, IsPlainAim, IsPlain}
-
--- ## Lists by their places
-
-abbrev At : {A : Type 0} → (A → Type 0) → List A → Type 0
-At {A} P xs = (k : ℕ) (x : A) → slice_get xs k ≡ Some x → P x
-
-at_none : {A : Type 0} (P : A → Type 0) → At P []
-at_none P k x e = absurd (cc)
-
-at_first : {A : Type 0} (P : A → Type 0) (x : A) (xs : List A) → P x → At P xs → At P (x ∷ xs)
-at_first P x xs p all zero y e = let same : x ≡ y = cc in subst P same p
-at_first P x xs p all (suc k) y e = all k y e
-
-at_last : {A : Type 0} (P : A → Type 0) (xs : List A) (y : A) → At P xs → P y → At P (xs ++ y ∷ [])
-at_last P [] y all p = at_first P y [] p all
-at_last P (x ∷ xs) y all p = at_first P x (xs ++ y ∷ []) (all zero x refl) (at_last P xs y (λ k z e. all (suc k) z e) p)
-
--- ## Values that are there
-
-module _ {A : Type 0} (P : A → Type 0) where
-  kept_if : (b : Bool) (o : Option A) → (b ≡ true → IfSome o P) → IfSome (kept_by b o) P
-  kept_if true o f = f refl
-  kept_if false o f = tt
-
-  one_of : (b : Bool) (x y : Option A) → IfSome x P → IfSome y P → IfSome (cond b x y) P
-  one_of true x y p q = p
-  one_of false x y p q = q
-
-  then_if : {B : Type 0} (Q : B → Type 0) (o : Option B) (f : B → Option A) → IfSome o Q → ((x : B) → Q x → IfSome (f x) P) → IfSome (option_and_then f o) P
-  then_if Q None f q each = tt
-  then_if Q (Some x) f q each = each x q
-
-  then_any : {B : Type 0} (o : Option B) (f : B → Option A) → ((x : B) → IfSome (f x) P) → IfSome (option_and_then f o) P
-  then_any None f each = tt
-  then_any (Some x) f each = each x
-
--- a list of values has as many as were asked for, and each is as it is to be
-record AreRead {A : Type 0} (P : A → Type 0) (n : ℕ) (xs : List A) : Type 0 where
-  many : length xs ≡ n
-  each : At P xs
-
-all_read : {N A : Type 0} (P : A → Type 0) (f : N → Option A) → ((n : N) → IfSome (f n) P) → (ns : List N) → IfSome (all_some (map f ns)) (AreRead P (length ns))
-all_read P f each [] = record { many = refl; each = at_none P }
-all_read {N} {A} P f each (n ∷ ns) = more (f n) (each n) (all_some (map f ns)) (all_read P f each ns)
-  where
-    more : (o : Option A) → IfSome o P → (r : Option (List A)) → IfSome r (AreRead P (length ns)) →
-        IfSome (option_and_then (λ x. option_map (λ xs. x ∷ xs) r) o) (AreRead P (suc (length ns)))
-    more None p r q = tt
-    more (Some x) p None q = tt
-    more (Some x) p (Some xs) q = record { many = ap suc q.many; each = at_first P x xs p q.each }
-
-some_if : {A : Type 0} (P : A → Type 0) (o : Option A) → ((x : A) → P x) → IfSome o P
-some_if P None all = tt
-some_if P (Some x) all = all x
 
 -- ## Rules that hold together
 
@@ -91,11 +39,15 @@ right false b e = absurd (cc)
 within : (m n : ℕ) → nat_le m n ≡ true → m ≤ n
 within m n e = grind (arith, nat_tests)
 
+below_limit : (m n : ℕ) → nat_lt m n ≡ true → m < n
+below_limit m n e = grind (arith, nat_tests)
+
 fourth : (a b c d : Bool) → (a && b && c && d) ≡ true → d ≡ true
 fourth a b c d e = right (a && b && c) d e
 
-fourth_eighth : (a b c d e f g h : Bool) → (a && b && c && d && e && f && g && h) ≡ true → (d ≡ true) × (h ≡ true)
-fourth_eighth a b c d e f g h all = (
+second_fourth_eighth : (a b c d e f g h : Bool) → (a && b && c && d && e && f && g && h) ≡ true → (b ≡ true) × (d ≡ true) × (h ≡ true)
+second_fourth_eighth a b c d e f g h all = (
+  right a b (left (a && b) c (left (a && b && c) d (left (a && b && c && d) e (left (a && b && c && d && e) f (left (a && b && c && d && e && f) g (left (a && b && c && d && e && f && g) h all)))))),
   fourth a b c d (left (a && b && c && d) e (left (a && b && c && d && e) f (left (a && b && c && d && e && f) g (left (a && b && c && d && e && f && g) h all)))),
   right (a && b && c && d && e && f && g) h all,
 )
@@ -103,6 +55,7 @@ fourth_eighth a b c d e f g h all = (
 -- ## Items
 
 record IsPlainDraft (draft : Draft) : Type 0 where
+  few : length draft.strands ≤ 1024
   strands : At IsPlainStrand draft.strands
   aims : At IsPlainAim draft.aims
 
@@ -110,18 +63,18 @@ module _ (bytes : List ℕ) (tokens : List Token) where
   op_plain : (draft : Draft) (nodes : List Node) → IsPlainDraft draft → IfSome (op_read bytes tokens draft nodes) IsPlainDraft
   op_plain draft nodes plain =
       let name = word_of bytes tokens symbol.OPERATOR_NAME nodes in
-      kept_if IsPlainDraft (op_rules bytes tokens draft name nodes) _ (λ _. record { strands = plain.strands; aims = plain.aims })
+      kept_if IsPlainDraft (op_rules bytes tokens draft name nodes) _ (λ _. record { few = plain.few; strands = plain.strands; aims = plain.aims })
 
   strand_limits : (draft : Draft) (name : List ℕ) (nodes : List Node) → strand_rules bytes tokens draft name nodes ≡ true →
-      (length (variable_nodes nodes) ≤ 64) × (length (listed symbol.EVENT symbol.NEXT_EVENT nodes) ≤ 32)
+      (length draft.strands < 1024) × (length (variable_nodes nodes) ≤ 64) × (length (listed symbol.EVENT symbol.NEXT_EVENT nodes) ≤ 32)
   strand_limits draft name nodes e =
-      let both = fourth_eighth
+      let three = second_fourth_eighth
       (not (list_any (λ strand. bytes_eq name strand.name) draft.strands)) (nat_lt (length draft.strands) 1024)
       (not (has symbol.FRESH_VALUES nodes)) (nat_le (length (variable_nodes nodes)) 64)
       (list_all (is_msg_variable bytes tokens) (variable_nodes nodes)) (are_apart (variable_names bytes tokens nodes))
       (list_all (λ n. is_none (number_of draft.sig n)) (variable_names bytes tokens nodes))
       (nat_le (length (listed symbol.EVENT symbol.NEXT_EVENT nodes)) 32) e in
-      (within (length (variable_nodes nodes)) 64 both.0, within (length (listed symbol.EVENT symbol.NEXT_EVENT nodes)) 32 both.1)
+      (below_limit (length draft.strands) 1024 three.0, within (length (variable_nodes nodes)) 64 three.1, within (length (listed symbol.EVENT symbol.NEXT_EVENT nodes)) 32 three.2)
 
   abbrev IsAny : Event → Type 0
   IsAny event = Unit {0}
@@ -138,10 +91,11 @@ module _ (bytes : List ℕ) (tokens : List Token) where
       (all_read IsAny event (λ n. some_if IsAny (event n) (λ _. tt)) items)
       (λ events made. kept_if IsPlainDraft (nat_le (messages_count events) 1024) _
       (λ _. record {
+        few = omega (arith, limits.0, length-append {A = Strand} draft.strands);
         strands = at_last IsPlainStrand draft.strands _ plain.strands (record {
-          variables = omega (arith, length-replicate {A = ℕ} (length (variable_nodes nodes)) 0, limits.0);
+          variables = omega (arith, length-replicate {A = ℕ} (length (variable_nodes nodes)) 0, limits.1);
           unfresh = refl;
-          events = omega (arith, made.many, limits.1);
+          events = omega (arith, made.many, limits.2);
         });
         aims = plain.aims;
       })))
@@ -167,6 +121,7 @@ module _ (bytes : List ℕ) (tokens : List Token) where
           IfSome (option_map (λ parts. record draft { aims = draft.aims ++ record { name = name; sorts = []; parts = parts } ∷ [] }) o) IsPlainDraft
       with_parts name n few None made = tt
       with_parts name n few (Some parts) made = record {
+        few = plain.few;
         strands = plain.strands;
         aims = at_last IsPlainAim draft.aims _ plain.aims (record { closed = refl; parts = omega (arith, made.many, few); known = made.each });
       }
@@ -189,8 +144,8 @@ module _ (bytes : List ℕ) (tokens : List Token) where
       let name = word_of bytes tokens symbol.PROTOCOL_NAME inside in
       let items = all_with symbol.ITEM inside in
       then_if IsPlain IsPlainDraft (items_read bytes tokens empty items) (finished name)
-      (items_plain items empty (record { strands = at_none IsPlainStrand; aims = at_none IsPlainAim }))
-      (λ draft plain. kept_if IsPlain (list_any is_constant draft.sig.ops) _ (λ _. record { strands = plain.strands; aims = plain.aims }))
+      (items_plain items empty (record { few = omega arith; strands = at_none IsPlainStrand; aims = at_none IsPlainAim }))
+      (λ draft plain. kept_if IsPlain (list_any is_constant draft.sig.ops) _ (λ _. record { few = plain.few; strands = plain.strands; aims = plain.aims }))
 
   -- so a module that is answered is of that form
   pub plain_answer : (nodes : List Node) (result : Result Source ReadError) → Gives result (source_of bytes tokens nodes) → IfOk result IsPlain

@@ -1,3 +1,4 @@
+pub mod Options
 pub mod Walks
 pub mod Reading
 pub mod Forms

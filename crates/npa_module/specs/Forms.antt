@@ -27,7 +27,8 @@ pub record IsPlainAim (aim : Aim) : Type 0 where
   pub parts : length aim.parts ≤ 64
   pub known : AreKnown aim.parts
 
--- Each strand and each aim is of that form.
+-- There are at most 1,024 strands, and each strand and each aim is of that form.
 pub record IsPlain (source : Source) : Type 0 where
+  pub few : length source.protocol.strands ≤ 1024
   pub strands : (k : ℕ) (strand : Strand) → slice_get source.protocol.strands k ≡ Some strand → IsPlainStrand strand
   pub aims : (k : ℕ) (aim : Aim) → slice_get source.aims k ≡ Some aim → IsPlainAim aim
