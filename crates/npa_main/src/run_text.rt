@@ -46,6 +46,27 @@ impl<T: Drop> From<AllocFailed<T>> for RunError {
     }
 }
 
+/// Reads a run text of a protocol. A text that isn't a run, that names a strand or an operator that
+/// isn't there, or has a form that isn't read so far, is `Later`.
+pub(crate) fn read_run(
+    alloc: Global,
+    protocol: &Protocol,
+    bytes: &[u8],
+) -> Result<Run, RunError>
+    requires short { length bytes.now ≤ 1048576 }
+    requires few { length protocol.now.strands ≤ 65535 }
+    ensures found { IfOk result (IsRunText protocol.now bytes.now) }
+    ensures only { AnswersRun protocol.now bytes.now result }
+    ensures ground { IfOk result (λ run. AreGround run.instances) }
+    ensures sizes { IfOk result (λ run. (length run.instances ≤ 1048576) × (length run.schedule ≤ 1048576)) }
+{
+    match parse(alloc, &run_grammar(), bytes) {
+        Ok(Parsed { tokens, nodes }) => read_tree(alloc, bytes, &tokens, protocol, nodes.as_slice()),
+        Err(TextFault::Syntax { .. }) => Err(RunError::Later),
+        Err(TextFault::NoMemory) => Err(RunError::NoMemory),
+    }
+}
+
 // The run of a text's trees.
 fn read_tree(
     alloc: Global,
