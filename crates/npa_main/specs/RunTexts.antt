@@ -1,5 +1,5 @@
 -- Run texts: which bytes stand for which run of a protocol.
-use Rattle.std.specs.Prelude.{◌≡◌, ℕ, Bool, true, false, ◌==◌, cond, List, [], ◌∷◌, Option, None, Some, Result, Ok, Err, map, length, slice_get, Contains, ◌≤◌}
+use Rattle.std.specs.Prelude.{◌≡◌, ℕ, Bool, true, false, ◌==◌, cond, List, [], ◌∷◌, Option, None, Some, Result, Ok, Err, map, length, slice_get, ◌≤◌}
 use Rattle.std.specs.Option.{option_map, option_map_or, option_and_then}
 use Rattle.std.specs.Str.{bytes_eq}
 use Rattle.std.specs.Cmp.Lexicographic.{pointwise}
@@ -14,13 +14,13 @@ use Rattle.npa_text.specs.Raws.{raw_of, token_at}
 use Rattle.npa_text.specs.Texts.{number_of}
 use Rattle.npa_term.specs.declared.term.Term.{Term}
 use Rattle.npa_term.specs.declared.term.Term.TheVariants.{Name}
-use Rattle.npa_term.specs.Variables.{IsGround}
 use Rattle.npa_sig.specs.Signature.{Signature}
 use Rattle.npa_sig.specs.Meaning.{read}
 use Rattle.npa_sig.specs.declared.protocol.Strand.{Strand}
 use Rattle.npa_sig.specs.declared.protocol.Protocol.{Protocol}
 use Rattle.npa_model.specs.declared.run.Instance.{Instance}
 use Rattle.npa_model.specs.declared.run.Run.{Run}
+use Rattle.npa_model.specs.Instances.{AreGround}
 use Rattle.npa_module.specs.Trees.{all_with, below, word_at, word_of}
 use Rattle.npa_module.specs.Items.{ok_of, all_some}
 use Rattle.npa_main.specs.declared.run_text.RunError.{RunError}
@@ -99,6 +99,8 @@ AnswersOne (Err run_error.NoMemory) wanted = Unit {0}
 pub record AnswersRun (protocol : Protocol) (bytes : List ℕ) (result : Result Run RunError) : Type 0 where
   pub every : (run : Run) → IsRunText protocol bytes run → AnswersOne result run
 
--- terms without variables
-abbrev pub AreGroundTerms : List Term → Type 0
-AreGroundTerms terms = (t : Term) → Contains terms t → IsGround t
+-- a run of terms without variables, with at most 1,048,576 instances and as many steps
+pub record IsGroundRun (run : Run) : Type 0 where
+  pub ground : AreGround run.instances
+  pub instances : length run.instances ≤ 1048576
+  pub steps : length run.schedule ≤ 1048576

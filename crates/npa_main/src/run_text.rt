@@ -1,9 +1,8 @@
 //! Run texts.
 
 ghost use Rattle.std.specs.Prelude.{◌≡◌, ◌≤◌, ◌<◌, map, length, slice_get, IfOk};
-ghost use Rattle.npa_model.specs.Instances.{AreGround};
 ghost use Rattle.npa_module.specs.Trees.{seen, word_at};
-ghost use Rattle.npa_main.specs.RunTexts.{IsRunText, AnswersRun, Gives, AreGroundTerms, strand_of, same_names, args_of, chosen, params_at, value_read, values_read, instance_read, instances_read, step_at, run_of};
+ghost use Rattle.npa_main.specs.RunTexts.{IsRunText, AnswersRun, IsGroundRun, Gives, strand_of, same_names, args_of, chosen, params_at, value_read, values_read, instance_read, instances_read, step_at, run_of};
 
 use npa_list::List;
 use npa_model::{Instance, Instances, Places, Run};
@@ -48,6 +47,7 @@ impl<T: Drop> From<AllocFailed<T>> for RunError {
 
 /// Reads a run text of a protocol. A text that isn't a run, that names a strand or an operator that
 /// isn't there, or has a form that isn't read so far, is `Later`.
+#[tactic(auto, using(crate::proofs::RunLaws::run_answer))]
 pub(crate) fn read_run(
     alloc: Global,
     protocol: &Protocol,
@@ -57,8 +57,7 @@ pub(crate) fn read_run(
     requires few { length protocol.now.strands ≤ 65535 }
     ensures found { IfOk result (IsRunText protocol.now bytes.now) }
     ensures only { AnswersRun protocol.now bytes.now result }
-    ensures ground { IfOk result (λ run. AreGround run.instances) }
-    ensures sizes { IfOk result (λ run. (length run.instances ≤ 1048576) × (length run.schedule ≤ 1048576)) }
+    ensures form { IfOk result IsGroundRun }
 {
     match parse(alloc, &run_grammar(), bytes) {
         Ok(Parsed { tokens, nodes }) => read_tree(alloc, bytes, &tokens, protocol, nodes.as_slice()),

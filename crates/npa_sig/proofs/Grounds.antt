@@ -76,6 +76,10 @@ module _ (sig : Signature) (bytes : List ℕ) where
     unscoped_row (more_of-Raw r rest) = front_ground (read sig [] bytes r) (read_row sig [] bytes rest) (unscoped_ground r) (unscoped_row rest)
 
 -- what is read with no scope has no variables
+pub ground_read : (sig : Signature) (bytes : List ℕ) (raw : Raw) → GroundRead (read sig [] bytes raw)
+ground_read sig bytes raw = unscoped_ground sig bytes raw
+
+-- and so no answer has
 pub ground_answer : (sig : Signature) (scope : List Scoped) (bytes : List ℕ) (raw : Raw) (answer : Result Term UseFail) →
     Gives answer (read sig scope bytes raw) → scope ≡ [] → IfOk answer IsGround
 ground_answer sig scope bytes raw (Ok t) given none =
