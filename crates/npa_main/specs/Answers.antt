@@ -1,11 +1,12 @@
 -- What the program prints for its words and the texts that the files hold.
-use Rattle.std.specs.Prelude.{◌≡◌, ℕ, ◌≤◌, ◌<◌, Bool, true, false, List, [], ◌∷◌, ◌++◌, Option, None, Some, IfSome, codes, length, slice_get, unwrap_or}
+use Rattle.std.specs.Prelude.{◌≡◌, ℕ, ◌≤◌, Bool, true, false, ◌||◌, nat_eq, List, [], ◌∷◌, ◌++◌, Option, None, Some, IfSome, codes, length, slice_get, unwrap_or}
 use Rattle.std.specs.List.{find}
 use Rattle.std.specs.Str.{bytes_eq}
 use Rattle.npa_term.specs.Canonical.{canonical}
 use Rattle.npa_text.specs.Counts.{Rose, appended, AppendsFront}
 use Rattle.npa_model.specs.declared.aim.Aim.{Aim}
 use Rattle.npa_model.specs.declared.run.Run.{Run}
+use Rattle.npa_model.specs.Aims.{Reaches}
 use Rattle.npa_module.specs.declared.source.Source.{Source}
 use Rattle.npa_module.specs.Modules.{IsModule}
 use Rattle.npa_replay.specs.declared.answer.Replay.{Replay}
@@ -39,6 +40,13 @@ NoRun protocol text = (run : Run) → IsRunText protocol text run → ⊥
 abbrev pub aim_named : List ℕ → List Aim → Option Aim
 aim_named name aims = find (λ aim. bytes_eq aim.name name) aims
 
+-- the text and the status for an answer that is true of the run
+pub record Replayed (protocol : Protocol) (aim : Aim) (run : Run) (text : List ℕ) (status : ℕ) : Type 0 where
+  pub answer : Replay
+  pub is_true : IsTrueOf canonical protocol aim run answer
+  pub text_is : text ≡ answer_text protocol run answer
+  pub status_is : status ≡ answer_status answer
+
 -- The text and the status for these words, where `told` is what a name's file holds as far as that is
 -- known: of a text that isn't known nothing is said.
 pub data Shown (told : List ℕ → Option (List ℕ)) (words : List (List ℕ)) : List ℕ → ℕ → Type 0 where
@@ -48,9 +56,36 @@ pub data Shown (told : List ℕ → Option (List ℕ)) (words : List (List ℕ))
       aim_named (word_at words 2) source.aims ≡ None → Shown told words (refused_no_aim (word_at words 2)) 3
   no_run : (source : Source) (aim : Aim) → is_replay words ≡ true → IfSome (told (word_at words 1)) (λ text. IsModuleText text source) →
       aim_named (word_at words 2) source.aims ≡ Some aim → IfSome (told (word_at words 3)) (NoRun source.protocol) → Shown told words invalid_later 9
-  replayed : (source : Source) (aim : Aim) (run : Run) (answer : Replay) → is_replay words ≡ true → IfSome (told (word_at words 1)) (λ text. IsModuleText text source) →
-      aim_named (word_at words 2) source.aims ≡ Some aim → IfSome (told (word_at words 3)) (λ text. IsRunText source.protocol text run) →
-      IsTrueOf canonical source.protocol aim run answer → Shown told words (answer_text source.protocol run answer) (answer_status answer)
+  replayed : (source : Source) (aim : Aim) (run : Run) (text : List ℕ) (status : ℕ) → is_replay words ≡ true →
+      IfSome (told (word_at words 1)) (λ text. IsModuleText text source) → aim_named (word_at words 2) source.aims ≡ Some aim →
+      IfSome (told (word_at words 3)) (λ text. IsRunText source.protocol text run) → Replayed source.protocol aim run text status → Shown told words text status
+
+-- The statuses with which a text is printed whole.
+abbrev pub is_told : ℕ → Bool
+is_told status = nat_eq status 0 || nat_eq status 2 || nat_eq status 3 || nat_eq status 9
+
+-- a text for the words, with this status, stands behind what was written
+pub record Prints (told : List ℕ → Option (List ℕ)) (words : List (List ℕ)) (before after : Option (List ℕ)) (status : ℕ) : Type 0 where
+  pub text : List ℕ
+  pub shown : Shown told words text status
+  pub written : after ≡ appended before text
+
+-- no more than a front of a text for the words stands behind what was written
+pub record PrintsFront (told : List ℕ → Option (List ℕ)) (words : List (List ℕ)) (before after : Option (List ℕ)) : Type 0 where
+  pub text : List ℕ
+  pub status : ℕ
+  pub shown : Shown told words text status
+  pub front : AppendsFront before after text
+
+-- The files hold a module and a run of its protocol, and the run reaches the module's aim of that name.
+pub record RunReaches (told : List ℕ → Option (List ℕ)) (words : List (List ℕ)) : Type 0 where
+  pub source : Source
+  pub aim : Aim
+  pub run : Run
+  pub module_is : IfSome (told (word_at words 1)) (λ text. IsModuleText text source)
+  pub aim_is : aim_named (word_at words 2) source.aims ≡ Some aim
+  pub run_is : IfSome (told (word_at words 3)) (λ text. IsRunText source.protocol text run)
+  pub reaches : Reaches canonical source.protocol aim run
 
 -- A fault of reading shows in the count of the first file, or in that of the second, which is read only
 -- where the module is one and has the aim.

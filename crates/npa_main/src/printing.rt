@@ -11,6 +11,15 @@ use npa_term::NoMemory;
 use npa_text::put_number;
 use std::alloc::{AllocError, Global};
 
+/// The line for words that are no command.
+pub(crate) const USAGE: &[u8] = b"usage: npa check FILE | search FILE AIM [--budget N] [--workers N] | verify FILE AIM CERT | replay FILE AIM RUN | gen N [--workers N]\n";
+
+/// The line for a text that isn't a module that is read so far.
+pub(crate) const REFUSED_LATER: &[u8] = b"refused later\n";
+
+/// The line for a text that isn't a run that is read so far.
+pub(crate) const INVALID_LATER: &[u8] = b"invalid later\n";
+
 /// The line for an aim that isn't in the module.
 pub(crate) fn refused_no_aim(alloc: Global, word: &[u8]) -> Result<Vec<u8>, AllocError>
     ensures { IfOk result (λ text. text.items ≡ refused_no_aim word.now) }
