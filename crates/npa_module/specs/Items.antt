@@ -11,17 +11,16 @@ use Rattle.npa_text.specs.declared.terminals.TheConstants as terminal
 use Rattle.npa_text.specs.declared.symbols.TheConstants as symbol
 use Rattle.npa_text.specs.Raws.{raw_of}
 use Rattle.npa_term.specs.declared.term.Term.{Term}
-use Rattle.npa_term.specs.Symbols.{symbol_count, all_count}
+use Rattle.npa_term.specs.Symbols.{symbol_count}
 use Rattle.npa_sig.specs.declared.fault.UseFail.{UseFail}
 use Rattle.npa_sig.specs.declared.signature.OpDecl.{OpDecl}
 use Rattle.npa_sig.specs.declared.protocol.Event.{Event}
 use Rattle.npa_sig.specs.declared.protocol.Strand.{Strand}
 use Rattle.npa_sig.specs.declared.meaning.Scoped.{Scoped}
-use Rattle.npa_sig.specs.Signature.{Signature, names_of, number_of}
+use Rattle.npa_sig.specs.Signature.{Signature, number_of}
 use Rattle.npa_sig.specs.Meaning.{read}
 use Rattle.npa_model.specs.declared.aim.Part.{Part}
 use Rattle.npa_model.specs.declared.aim.Part.TheVariants as part
-use Rattle.npa_model.specs.declared.aim.Aim.{Aim}
 use Rattle.npa_module.specs.declared.draft.Draft.{Draft}
 use Rattle.npa_module.specs.declared.source.ReadError.{ReadError}
 use Rattle.npa_module.specs.declared.source.ReadError.TheVariants as read_error

@@ -1,9 +1,8 @@
 -- Module texts: which bytes stand for which module.
-use Rattle.std.specs.Prelude.{◌≡◌, ℕ, Bool, true, false, List, [], ◌∷◌, Option, None, Some, Result, Ok, Err, ◌==◌, length}
+use Rattle.std.specs.Prelude.{◌≡◌, ℕ, Bool, List, [], Option, Some, Result, Ok, Err, ◌==◌, length}
 use Rattle.std.specs.Option.{option_and_then}
 use Rattle.std.specs.List.{list_any}
 use Rattle.npa_syntax.specs.declared.node.Node.{Node}
-use Rattle.npa_syntax.specs.Nodes.{children_of, first_with}
 use Rattle.npa_text.specs.declared.token.Token.{Token}
 use Rattle.npa_text.specs.declared.symbols.TheConstants as symbol
 use Rattle.npa_text.specs.Languages.{module_language}

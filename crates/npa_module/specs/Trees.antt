@@ -1,5 +1,5 @@
 -- What the second pass over a text reads off its syntax trees.
-use Rattle.std.specs.Prelude.{ℕ, Bool, ◌==◌, ◌||◌, cond, List, [], ◌∷◌, ◌++◌, Option, filter, is_some, map}
+use Rattle.std.specs.Prelude.{ℕ, Bool, ◌==◌, cond, List, [], ◌∷◌, ◌++◌, filter, is_some, map}
 use Rattle.std.specs.Borrow.{Bor}
 use Rattle.std.specs.Option.{option_map_or}
 use Rattle.npa_syntax.specs.declared.node.Node.{Node}
