@@ -2,5 +2,7 @@
 #![tactic(auto)]
 
 mod list;
+#[cfg(test)]
+mod tests;
 
 pub use list::List;

@@ -3,3 +3,4 @@ pub mod Runs
 pub mod State
 pub mod Instances
 pub mod Aims
+pub mod Sent

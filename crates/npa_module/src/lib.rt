@@ -8,6 +8,8 @@ mod reader;
 mod source;
 mod strands;
 mod terms;
+#[cfg(test)]
+mod tests;
 pub mod trees;
 
 pub use reader::read;

@@ -8,6 +8,8 @@ mod printing;
 mod protocol;
 mod signature;
 mod sorting;
+#[cfg(test)]
+mod tests;
 
 pub use fault::{SigFail, UseFail};
 pub use meaning::{Scope, Scoped, resolve};
