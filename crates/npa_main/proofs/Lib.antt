@@ -1,3 +1,4 @@
 pub mod RunLaws
 pub mod PlainLaws
 pub mod Loading
+pub mod Showing

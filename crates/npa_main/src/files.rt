@@ -63,7 +63,6 @@ fn load<F: Files>(alloc: Global, files: &mut F, name: &str) -> Result<Option<Vec
 }
 
 /// The module that a file holds, or `None` where it holds none that is read so far.
-#[tactic(auto, using(crate::proofs::Loading::later_module))]
 pub(crate) fn load_module<F: Files>(
     alloc: Global,
     files: &mut F,
@@ -87,7 +86,6 @@ pub(crate) fn load_module<F: Files>(
 }
 
 /// The run of the protocol that a file holds, or `None` where it holds none that is read so far.
-#[tactic(auto, using(crate::proofs::Loading::later_run))]
 pub(crate) fn load_run<F: Files>(
     alloc: Global,
     files: &mut F,

@@ -88,9 +88,10 @@ fn text_for<F: Files>(alloc: Global, words: &Words, files: &mut F) -> Result<Pri
             return Ok(Printed { text, status: 3 });
         }
     };
-    let run = match load_run(alloc, files, word(words, 3), &source.protocol)? {
-        Some(run) => run,
-        None => return told(alloc, INVALID_LATER, 9),
+    let run = match load_run(alloc, files, word(words, 3), &source.protocol) {
+        Ok(Some(run)) => run,
+        Ok(None) => return told(alloc, INVALID_LATER, 9),
+        Err(halt) => return Err(halt),
     };
     replayed(alloc, &source, aim, &run)
 }

@@ -1,33 +1,71 @@
-use Rattle.std.proofs.Common.{rules, ◌≡◌, ◌⊎◌, ℕ, List, true, IfOk, IfSome, ◌+◌, ◌-◌, ◌*◌, ◌<◌, ◌≤◌, length, ◌/◌, ◌%◌, Bool, false, nat_eq, nat_lt, [], ◌∷◌, ◌++◌, slice_index_or, slice_set, bit_and, bit_or, Fits, w8, w32, w64, Bor, MutBor}
+use Rattle.std.proofs.Common.{◌≡◌, ℕ, List, refl, sym, ap, subst, ◌∙◌}
 use Rattle.std.specs.Option.{option_copied}
-use Rattle.std.specs.Result.{IsErrOf}
+use Rattle.std.specs.Prelude.{IfSome}
 use Rattle.npa_text.specs.Counts.{Rose}
-use Rattle.npa_module.specs.Forms.{IsPlain, IsPlainAim}
-use Rattle.npa_main.specs.RunTexts.{IsGroundRun}
-use Rattle.npa_main.specs.Answers.{Shown, Replayed, ReadFault, Prints, PrintsFront, RunReaches, is_told, is_replay, word_at, aim_named}
+use Rattle.npa_main.specs.RunTexts.{IsRunText}
+use Rattle.npa_main.specs.Texts.{usage_line, refused_later, refused_no_aim, invalid_later}
+use Rattle.npa_main.specs.Answers.{Shown, usage, no_module, no_aim, no_run, replayed, Replayed, ReadFault, first, second, IsModuleText, NoModule, NoRun, word_at, aim_named}
+use Rattle.npa_main.proofs.Showing.{on_ok, map_ok, holds_none, holds_one, found_aim, plain_aim, some_plain, rose_since, err_of}
+use Rattle.npa_main.specs.declared.files.Halt.TheVariants.{Fault}
 use Rattle.npa_main.proofs.program.text_for.Goals as goal
 
--- src/program.rt:78:9
 pub returns-then-not-is_replay-clause-shown : goal.returns-then-not-is_replay-clause-shown
-returns-then-not-is_replay-clause-shown g c = ?
+returns-then-not-is_replay-clause-shown g c =
+    on_ok c.told.result usage_line 2 c.told.ensures.text c.told.ensures.status (Shown (g.F.Files.holds c.args.files.now) c.args.words.now)
+    (usage (sym c.is_replay.ensures ∙ c.if-not-is_replay.true))
 
--- src/program.rt:82:17
 pub returns-in-None-clause-shown : goal.returns-in-None-clause-shown
-returns-in-None-clause-shown g c = ?
+returns-in-None-clause-shown g c =
+    let holds = g.F.Files.holds c.args.files.now in
+    on_ok c.told-in-None.result refused_later 3 c.told-in-None.ensures.text c.told-in-None.ensures.status (Shown holds c.args.words.now)
+    (no_module (sym c.is_replay.ensures ∙ c.if-not-is_replay.false)
+    (holds_none holds holds (λ n. refl) c.word.result.now (word_at c.args.words.now 1) c.word.ensures c.in_ok-source.field-0 NoModule IsModuleText c.in_ok-source.ensures.told c.in-None.is))
 
--- src/program.rt:88:13
 pub returns-in-None-find_aim-clause-shown : goal.returns-in-None-find_aim-clause-shown
-returns-in-None-find_aim-clause-shown g c = ?
+returns-in-None-find_aim-clause-shown g c =
+    let holds = g.F.Files.holds c.args.files.now in
+    let named = found_aim c.find_aim.result c.as_bytes.result.now (word_at c.args.words.now 2) c.as_slice.result.now c.in-Some.source.aims c.find_aim.ensures (c.as_bytes.ensures.value ∙ c.word-2.ensures) c.as_slice.ensures in
+    let shown = no_aim c.in-Some.source (sym c.is_replay.ensures ∙ c.if-not-is_replay.false)
+      (holds_one holds holds (λ n. refl) c.word.result.now (word_at c.args.words.now 1) c.word.ensures c.in_ok-source.field-0 NoModule IsModuleText c.in_ok-source.ensures.told c.in-Some.source c.in-Some.is)
+      (named ∙ ap option_copied c.in-None-find_aim.is) in
+    subst (λ l. Shown holds c.args.words.now l 3)
+    (sym (c.in_ok-text-in-None-find_aim.ensures ∙ ap refused_no_aim (c.as_bytes-in-None-find_aim.ensures.value ∙ c.word-in-None-find_aim.ensures))) shown
 
--- src/program.rt:91:21
-pub returns-in_err-run-clause-fault : goal.returns-in_err-run-clause-fault
-returns-in_err-run-clause-fault g c = ?
+pub returns-in-Ok-None-clause-shown : goal.returns-in-Ok-None-clause-shown
+returns-in-Ok-None-clause-shown g c =
+    let holds = g.F.Files.holds c.args.files.now in
+    let named = found_aim c.find_aim.result c.as_bytes.result.now (word_at c.args.words.now 2) c.as_slice.result.now c.in-Some.source.aims c.find_aim.ensures (c.as_bytes.ensures.value ∙ c.word-2.ensures) c.as_slice.ensures in
+    on_ok c.told-in-Ok-None.result invalid_later 9 c.told-in-Ok-None.ensures.text c.told-in-Ok-None.ensures.status (Shown holds c.args.words.now)
+    (no_run c.in-Some.source c.in-Some-find_aim.aim.now (sym c.is_replay.ensures ∙ c.if-not-is_replay.false)
+    (holds_one holds holds (λ n. refl) c.word.result.now (word_at c.args.words.now 1) c.word.ensures c.in_ok-source.field-0 NoModule IsModuleText c.in_ok-source.ensures.told c.in-Some.source c.in-Some.is)
+    (named ∙ ap option_copied c.in-Some-find_aim.is)
+    (holds_none holds (g.F.Files.holds c.load_module.new.files) c.load_module.ensures.texts_stay c.word-3.result.now (word_at c.args.words.now 3) c.word-3.ensures c.in-Ok-None.field-0
+    (NoRun c.in-Some.source.protocol) (IsRunText c.in-Some.source.protocol) c.in-Ok-None.ensures.told c.in-Ok-None.field-0-is))
 
--- src/program.rt:93:17
-pub returns-in-None-2-clause-shown : goal.returns-in-None-2-clause-shown
-returns-in-None-2-clause-shown g c = ?
+pub returns-in-Err-clause-fault : goal.returns-in-Err-clause-fault
+returns-in-Err-clause-fault g c =
+    let holds = g.F.Files.holds c.args.files.now in
+    let named = found_aim c.find_aim.result c.as_bytes.result.now (word_at c.args.words.now 2) c.as_slice.result.now c.in-Some.source.aims c.find_aim.ensures (c.as_bytes.ensures.value ∙ c.word-2.ensures) c.as_slice.ensures in
+    λ halted. second c.in-Some.source c.in-Some-find_aim.aim.now (sym c.is_replay.ensures ∙ c.if-not-is_replay.false)
+    (holds_one holds holds (λ n. refl) c.word.result.now (word_at c.args.words.now 1) c.word.ensures c.in_ok-source.field-0 NoModule IsModuleText c.in_ok-source.ensures.told c.in-Some.source c.in-Some.is)
+    (named ∙ ap option_copied c.in-Some-find_aim.is)
+    (rose_since (g.F.Files.faults c.args.files.now (word_at c.args.words.now 3)) (g.F.Files.faults c.load_module.new.files (word_at c.args.words.now 3)) (g.F.Files.faults c.load_run.new.files (word_at c.args.words.now 3))
+    (c.load_module.ensures.faults_stay (word_at c.args.words.now 3))
+    (subst (λ n. Rose (g.F.Files.faults c.load_module.new.files n) (g.F.Files.faults c.load_run.new.files n)) c.word-3.ensures (c.in-Err.ensures.fault (err_of c.in-Err.halt Fault halted))))
 
--- src/program.rt:95:5
 pub replayed-requires-clause-aim : goal.replayed-requires-clause-aim
-replayed-requires-clause-aim g c = ?
+replayed-requires-clause-aim g c =
+    let named = found_aim c.find_aim.result c.as_bytes.result.now (word_at c.args.words.now 2) c.as_slice.result.now c.in-Some.source.aims c.find_aim.ensures (c.as_bytes.ensures.value ∙ c.word-2.ensures) c.as_slice.ensures in
+    plain_aim c.in-Some.source (word_at c.args.words.now 2) c.in-Some-find_aim.aim.now (some_plain c.in_ok-source.field-0 c.in-Some.source c.in_ok-source.ensures.form c.in-Some.is)
+    (named ∙ ap option_copied c.in-Some-find_aim.is)
 
+pub returns-clause-shown : goal.returns-clause-shown
+returns-clause-shown g c =
+    let holds = g.F.Files.holds c.args.files.now in
+    let named = found_aim c.find_aim.result c.as_bytes.result.now (word_at c.args.words.now 2) c.as_slice.result.now c.in-Some.source.aims c.find_aim.ensures (c.as_bytes.ensures.value ∙ c.word-2.ensures) c.as_slice.ensures in
+    map_ok c.replayed.result (Replayed c.in-Some.source.protocol c.in-Some-find_aim.aim.now c.in-Ok-Some.run') (Shown holds c.args.words.now) c.replayed.ensures.replayed
+    (λ text status is. replayed c.in-Some.source c.in-Some-find_aim.aim.now c.in-Ok-Some.run' text status (sym c.is_replay.ensures ∙ c.if-not-is_replay.false)
+    (holds_one holds holds (λ n. refl) c.word.result.now (word_at c.args.words.now 1) c.word.ensures c.in_ok-source.field-0 NoModule IsModuleText c.in_ok-source.ensures.told c.in-Some.source c.in-Some.is)
+    (named ∙ ap option_copied c.in-Some-find_aim.is)
+    (holds_one holds (g.F.Files.holds c.load_module.new.files) c.load_module.ensures.texts_stay c.word-3.result.now (word_at c.args.words.now 3) c.word-3.ensures c.in-Ok-Some.field-0
+    (NoRun c.in-Some.source.protocol) (IsRunText c.in-Some.source.protocol) c.in-Ok-Some.ensures.told c.in-Ok-Some.run' c.in-Ok-Some.field-0-is) is)
