@@ -7,10 +7,10 @@ use Rattle.npa_model.specs.declared.run.Run.{Run}
 use Rattle.npa_module.specs.declared.source.Source.{Source}
 use Rattle.npa_module.specs.declared.source.ReadError.{ReadError}
 use Rattle.npa_module.specs.declared.source.ReadError.TheVariants as read_error
-use Rattle.npa_module.specs.Modules.{IsModule, Answers, AnswersModule}
+use Rattle.npa_module.specs.Modules.{Answers, AnswersModule}
 use Rattle.npa_main.specs.declared.run_text.RunError.{RunError}
 use Rattle.npa_main.specs.declared.run_text.RunError.TheVariants as run_error
-use Rattle.npa_main.specs.RunTexts.{IsRunText, AnswersOne, AnswersRun}
+use Rattle.npa_main.specs.RunTexts.{AnswersOne, AnswersRun}
 use Rattle.npa_main.specs.Answers.{NoModule, NoRun}
 
 module _ {V : Type 0} (v : V) (items : V → List ℕ) (told : Option (List ℕ)) (loaded : Option V) (bytes : List ℕ)
@@ -18,7 +18,7 @@ module _ {V : Type 0} (v : V) (items : V → List ℕ) (told : Option (List ℕ)
   whole : (text : List ℕ) → told ≡ Some text → bytes ≡ text
   whole text known =
       let here : MatchOption loaded (1048576 < length text) (λ b. items b ≡ text) =
-        subst (λ (o : Option (List ℕ)). IfSome o (λ text. MatchOption loaded (1048576 < length text) (λ b. items b ≡ text))) known is_told in
+      subst (λ (o : Option (List ℕ)). IfSome o (λ text. MatchOption loaded (1048576 < length text) (λ b. items b ≡ text))) known is_told in
       same ∙ subst (λ (o : Option V). MatchOption o (1048576 < length text) (λ b. items b ≡ text)) is here
 
   where_told : (P : List ℕ → Type 0) → P bytes → IfSome told P

@@ -1,6 +1,5 @@
 -- What a module of the first form grants to a replay.
-use Rattle.std.proofs.Common.{◌≡◌, ℕ, ◌<◌, ◌≤◌, List, length, arith, Some, slice_get}
-use Rattle.npa_sig.specs.declared.protocol.Strand.{Strand}
+use Rattle.std.proofs.Common.{arith}
 use Rattle.npa_model.specs.State.{AreCountable}
 use Rattle.npa_module.specs.declared.source.Source.{Source}
 use Rattle.npa_module.specs.Forms.{IsPlain}

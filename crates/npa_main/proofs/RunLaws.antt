@@ -1,8 +1,8 @@
 -- The run of a text's trees has ground terms, and no more instances and steps than its trees.
-use Rattle.std.proofs.Common.{◌≡◌, ℕ, ◌+◌, ◌≤◌, ◌<◌, ◌==◌, Bool, true, false, cond, List, [], ◌∷◌, ◌++◌, Option, None, Some, Result, Ok, Err, length, map, filter, refl, ap, sym, ◌∙◌, subst, slice_get, Contains, arith, zero, suc}
+use Rattle.std.proofs.Common.{ℕ, ◌≤◌, ◌==◌, Bool, true, false, cond, List, [], ◌∷◌, Option, None, Some, Result, Ok, Err, length, map, filter, refl, subst, Contains, arith, zero, suc}
 use Rattle.std.proofs.lemmas.List.{length-map}
 use Rattle.std.specs.Prelude.{IfSome, IfOk}
-use Rattle.std.specs.Option.{option_map, option_map_or, option_and_then}
+use Rattle.std.specs.Option.{option_map, option_map_or}
 use Rattle.std.specs.List.{find}
 use Rattle.npa_syntax.specs.declared.node.Node.{Node}
 use Rattle.npa_syntax.specs.Nodes.{symbol_of, children_of, first_with}
@@ -21,7 +21,7 @@ use Rattle.npa_model.specs.declared.run.Instance.{Instance}
 use Rattle.npa_model.specs.declared.run.Run.{Run}
 use Rattle.npa_main.specs.declared.run_text.RunError.{RunError}
 use Rattle.npa_module.specs.Trees.{all_with, below, word_at, word_of}
-use Rattle.npa_module.specs.Items.{ok_of, all_some}
+use Rattle.npa_module.specs.Items.{ok_of}
 use Rattle.npa_module.proofs.Options.{At, at_none, at_first, then_any, AreRead, all_read}
 use Rattle.npa_main.specs.RunTexts.{chosen, same_names, args_of, strand_of, value_read, values_read, params_at, instance_of, instance_read, instances_read, step_at, run_of, Gives, IsGroundRun}
 
@@ -108,8 +108,12 @@ module _ (bytes : List ℕ) (tokens : List Token) (protocol : Protocol) where
       with_instances (Some instances) made = record {
         ground = λ k instance e t inside. from_places IsGround instance.args (made.each k instance e) t inside;
         instances = omega (arith, made.many, kept_fewer (λ n. symbol_of n == symbol.USED) nodes, few.trees);
-        steps = omega (arith, length-map (all_with symbol.STEP (below symbol.SCHEDULE nodes)) (step_at bytes tokens),
-          kept_fewer (λ n. symbol_of n == symbol.STEP) (below symbol.SCHEDULE nodes), first_few (λ n. symbol_of n == symbol.SCHEDULE) nodes few.children);
+        steps = omega (
+          arith,
+          length-map (all_with symbol.STEP (below symbol.SCHEDULE nodes)) (step_at bytes tokens),
+          kept_fewer (λ n. symbol_of n == symbol.STEP) (below symbol.SCHEDULE nodes),
+          first_few (λ n. symbol_of n == symbol.SCHEDULE) nodes few.children,
+        );
       }
 
   -- so a run that is answered is of that form

@@ -1,5 +1,5 @@
 -- How the text for the words comes from what was loaded.
-use Rattle.std.proofs.Common.{◌≡◌, ℕ, ◌≤◌, ◌<◌, ◌⊎◌, inl, inr, List, Option, None, Some, Result, Ok, Err, refl, sym, ap, subst, ◌∙◌, arith, slice_get, Bor}
+use Rattle.std.proofs.Common.{◌≡◌, ℕ, ◌≤◌, inl, inr, List, Option, None, Some, Result, Ok, Err, sym, ap, subst, ◌∙◌, arith, Bor}
 use Rattle.std.specs.Prelude.{IfSome, IfOk, MatchOption}
 use Rattle.std.specs.Option.{option_copied}
 use Rattle.std.specs.Result.{IsErrOf}

@@ -1,5 +1,5 @@
 -- Run texts: which bytes stand for which run of a protocol.
-use Rattle.std.specs.Prelude.{◌≡◌, ℕ, Bool, true, false, ◌==◌, cond, List, [], ◌∷◌, Option, None, Some, Result, Ok, Err, map, length, slice_get, ◌≤◌}
+use Rattle.std.specs.Prelude.{◌≡◌, ℕ, Bool, ◌==◌, cond, List, [], ◌∷◌, Option, None, Some, Result, Ok, Err, map, length, slice_get, ◌≤◌}
 use Rattle.std.specs.Option.{option_map, option_map_or, option_and_then}
 use Rattle.std.specs.Str.{bytes_eq}
 use Rattle.std.specs.Cmp.Lexicographic.{pointwise}
@@ -14,7 +14,6 @@ use Rattle.npa_text.specs.Raws.{raw_of, token_at}
 use Rattle.npa_text.specs.Texts.{number_of}
 use Rattle.npa_term.specs.declared.term.Term.{Term}
 use Rattle.npa_term.specs.declared.term.Term.TheVariants.{Name}
-use Rattle.npa_sig.specs.Signature.{Signature}
 use Rattle.npa_sig.specs.Meaning.{read}
 use Rattle.npa_sig.specs.declared.protocol.Strand.{Strand}
 use Rattle.npa_sig.specs.declared.protocol.Protocol.{Protocol}

@@ -12,7 +12,8 @@ use npa_text::put_number;
 use std::alloc::{AllocError, Global};
 
 /// The line for words that are no command.
-pub(crate) const USAGE: &[u8] = b"usage: npa check FILE | search FILE AIM [--budget N] [--workers N] | verify FILE AIM CERT | replay FILE AIM RUN | gen N [--workers N]\n";
+pub(crate) const USAGE: &[u8] =
+    b"usage: npa check FILE | search FILE AIM [--budget N] [--workers N] | verify FILE AIM CERT | replay FILE AIM RUN | gen N [--workers N]\n";
 
 /// The line for a text that isn't a module that is read so far.
 pub(crate) const REFUSED_LATER: &[u8] = b"refused later\n";

@@ -9,7 +9,9 @@ ghost use Rattle.npa_main.specs.RunTexts.{IsGroundRun};
 ghost use Rattle.npa_main.specs.Answers.{Shown, Replayed, ReadFault, Prints, PrintsFront, RunReaches, is_told, is_replay, word_at, aim_named};
 
 use crate::files::{Halt, load_module, load_run};
-use crate::printing::{INVALID_LATER, REFUSED_LATER, USAGE, answer_status, answer_text, refused_no_aim};
+use crate::printing::{
+    INVALID_LATER, REFUSED_LATER, USAGE, answer_status, answer_text, refused_no_aim,
+};
 use npa_model::{Aim, Run};
 use npa_module::Source;
 use npa_replay::replay;

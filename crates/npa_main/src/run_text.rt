@@ -48,11 +48,7 @@ impl<T: Drop> From<AllocFailed<T>> for RunError {
 /// Reads a run text of a protocol. A text that isn't a run, that names a strand or an operator that
 /// isn't there, or has a form that isn't read so far, is `Later`.
 #[tactic(auto, using(crate::proofs::RunLaws::run_answer))]
-pub(crate) fn read_run(
-    alloc: Global,
-    protocol: &Protocol,
-    bytes: &[u8],
-) -> Result<Run, RunError>
+pub(crate) fn read_run(alloc: Global, protocol: &Protocol, bytes: &[u8]) -> Result<Run, RunError>
     requires short { length bytes.now ≤ 1048576 }
     requires few { length protocol.now.strands ≤ 65535 }
     ensures found { IfOk result (IsRunText protocol.now bytes.now) }
@@ -60,7 +56,13 @@ pub(crate) fn read_run(
     ensures form { IfOk result IsGroundRun }
 {
     match parse(alloc, &run_grammar(), bytes) {
-        Ok(Parsed { tokens, nodes }) => read_tree(alloc, bytes, &tokens, protocol, nodes.as_slice()),
+        Ok(Parsed { tokens, nodes }) => read_tree(
+            alloc,
+            bytes,
+            &tokens,
+            protocol,
+            nodes.as_slice(),
+        ),
         Err(TextFault::Syntax { .. }) => Err(RunError::Later),
         Err(TextFault::NoMemory) => Err(RunError::NoMemory),
     }

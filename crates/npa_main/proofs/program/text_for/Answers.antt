@@ -1,10 +1,9 @@
-use Rattle.std.proofs.Common.{◌≡◌, ℕ, List, refl, sym, ap, subst, ◌∙◌}
+use Rattle.std.proofs.Common.{refl, sym, ap, subst, ◌∙◌}
 use Rattle.std.specs.Option.{option_copied}
-use Rattle.std.specs.Prelude.{IfSome}
 use Rattle.npa_text.specs.Counts.{Rose}
 use Rattle.npa_main.specs.RunTexts.{IsRunText}
 use Rattle.npa_main.specs.Texts.{usage_line, refused_later, refused_no_aim, invalid_later}
-use Rattle.npa_main.specs.Answers.{Shown, usage, no_module, no_aim, no_run, replayed, Replayed, ReadFault, first, second, IsModuleText, NoModule, NoRun, word_at, aim_named}
+use Rattle.npa_main.specs.Answers.{Shown, usage, no_module, no_aim, no_run, replayed, Replayed, second, IsModuleText, NoModule, NoRun, word_at}
 use Rattle.npa_main.proofs.Showing.{on_ok, map_ok, holds_none, holds_one, found_aim, plain_aim, some_plain, rose_since, err_of}
 use Rattle.npa_main.specs.declared.files.Halt.TheVariants.{Fault}
 use Rattle.npa_main.proofs.program.text_for.Goals as goal
@@ -26,8 +25,8 @@ returns-in-None-find_aim-clause-shown g c =
     let holds = g.F.Files.holds c.args.files.now in
     let named = found_aim c.find_aim.result c.as_bytes.result.now (word_at c.args.words.now 2) c.as_slice.result.now c.in-Some.source.aims c.find_aim.ensures (c.as_bytes.ensures.value ∙ c.word-2.ensures) c.as_slice.ensures in
     let shown = no_aim c.in-Some.source (sym c.is_replay.ensures ∙ c.if-not-is_replay.false)
-      (holds_one holds holds (λ n. refl) c.word.result.now (word_at c.args.words.now 1) c.word.ensures c.in_ok-source.field-0 NoModule IsModuleText c.in_ok-source.ensures.told c.in-Some.source c.in-Some.is)
-      (named ∙ ap option_copied c.in-None-find_aim.is) in
+    (holds_one holds holds (λ n. refl) c.word.result.now (word_at c.args.words.now 1) c.word.ensures c.in_ok-source.field-0 NoModule IsModuleText c.in_ok-source.ensures.told c.in-Some.source c.in-Some.is)
+    (named ∙ ap option_copied c.in-None-find_aim.is) in
     subst (λ l. Shown holds c.args.words.now l 3)
     (sym (c.in_ok-text-in-None-find_aim.ensures ∙ ap refused_no_aim (c.as_bytes-in-None-find_aim.ensures.value ∙ c.word-in-None-find_aim.ensures))) shown
 
