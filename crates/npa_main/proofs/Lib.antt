@@ -2,3 +2,4 @@ pub mod RunLaws
 pub mod PlainLaws
 pub mod Loading
 pub mod Showing
+pub mod Unique

@@ -20,15 +20,10 @@ pub on_ok : (r : Result Printed Halt) (line : List ℕ) (s : ℕ) → IfOk r (λ
 on_ok (Ok a) line s t u P p = subst (λ l. P l a.status) (sym t) (subst (λ n. P line n) (sym u) p)
 on_ok (Err e) line s t u P p = tt
 
-pub map_ok : (r : Result Printed Halt) (P Q : List ℕ → ℕ → Type 0) → IfOk r (λ a. P a.text.items a.status) →
-    ((text : List ℕ) (status : ℕ) → P text status → Q text status) → IfOk r (λ a. Q a.text.items a.status)
-map_ok (Ok a) P Q p f = f a.text.items a.status p
-map_ok (Err e) P Q p f = tt
-
 -- What a file holds, by what was loaded of it: its name is `at`, and what it holds was the same before.
 module _ {S : Type 0} (before told : List ℕ → Option (List ℕ)) (stay : (n : List ℕ) → told n ≡ before n) (name at : List ℕ) (same : name ≡ at) (loaded : Option S)
     (No : List ℕ → Type 0) (Is : List ℕ → S → Type 0) (is_told : IfSome (told name) (λ text. MatchOption loaded (No text) (Is text))) where
-  moved : (P : List ℕ → Type 0) → IfSome (told name) P → IfSome (before at) P
+  pub moved : (P : List ℕ → Type 0) → IfSome (told name) P → IfSome (before at) P
   moved P p = subst (λ (n : List ℕ). IfSome (before n) P) same (subst (λ (o : Option (List ℕ)). IfSome o P) (stay name) p)
 
   pub holds_none : loaded ≡ None → IfSome (before at) No

@@ -60,21 +60,45 @@ pub data Shown (told : List ℕ → Option (List ℕ)) (words : List (List ℕ))
       IfSome (told (word_at words 1)) (λ text. IsModuleText text source) → aim_named (word_at words 2) source.aims ≡ Some aim →
       IfSome (told (word_at words 3)) (λ text. IsRunText source.protocol text run) → Replayed source.protocol aim run text status → Shown told words text status
 
+-- the texts of both files are known
+pub record AreTold (told : List ℕ → Option (List ℕ)) (words : List (List ℕ)) : Type 0 where
+  pub file : List ℕ
+  pub run : List ℕ
+  pub file_is : told (word_at words 1) ≡ Some file
+  pub run_is : told (word_at words 3) ≡ Some run
+
+-- no other text and status are so
+abbrev pub IsOnly : (List ℕ → ℕ → Type 0) → List ℕ → ℕ → Type 0
+IsOnly Holds text status = (other : List ℕ) (number : ℕ) → Holds other number → (other ≡ text) × (number ≡ status)
+
+-- The text and the status are for these words, and where both files' texts are known, no others are.
+pub record IsFor (told : List ℕ → Option (List ℕ)) (words : List (List ℕ)) (text : List ℕ) (status : ℕ) : Type 0 where
+  pub shown : Shown told words text status
+  pub only : AreTold told words → IsOnly (Shown told words) text status
+
+-- the text stands for no module but the one that was loaded
+abbrev pub NoOtherModule : List ℕ → Option Source → Type 0
+NoOtherModule text loaded = (source : Source) → IsModuleText text source → loaded ≡ Some source
+
+-- the text stands for no run but the one that was loaded
+abbrev pub NoOtherRun : Protocol → List ℕ → Option Run → Type 0
+NoOtherRun protocol text loaded = (run : Run) → IsRunText protocol text run → loaded ≡ Some run
+
 -- The statuses with which a text is printed whole.
 abbrev pub is_told : ℕ → Bool
 is_told status = nat_eq status 0 || nat_eq status 2 || nat_eq status 3 || nat_eq status 9
 
--- a text for the words, with this status, stands behind what was written
+-- the text for the words, with this status, stands behind what was written
 pub record Prints (told : List ℕ → Option (List ℕ)) (words : List (List ℕ)) (before after : Option (List ℕ)) (status : ℕ) : Type 0 where
   pub text : List ℕ
-  pub shown : Shown told words text status
+  pub shown : IsFor told words text status
   pub written : after ≡ appended before text
 
--- no more than a front of a text for the words stands behind what was written
+-- no more than a front of the text for the words stands behind what was written
 pub record PrintsFront (told : List ℕ → Option (List ℕ)) (words : List (List ℕ)) (before after : Option (List ℕ)) : Type 0 where
   pub text : List ℕ
   pub status : ℕ
-  pub shown : Shown told words text status
+  pub shown : IsFor told words text status
   pub front : AppendsFront before after text
 
 -- The files hold a module and a run of its protocol, and the run reaches the module's aim of that name.

@@ -5,7 +5,7 @@ ghost use Rattle.std.specs.Result.{IsErrOf};
 ghost use Rattle.npa_text.specs.Counts.{Rose};
 ghost use Rattle.npa_module.specs.Forms.{IsPlain};
 ghost use Rattle.npa_main.specs.RunTexts.{IsRunText, IsGroundRun};
-ghost use Rattle.npa_main.specs.Answers.{IsModuleText, NoModule, NoRun};
+ghost use Rattle.npa_main.specs.Answers.{IsModuleText, NoModule, NoOtherModule, NoRun, NoOtherRun};
 
 use crate::run_text::{RunError, read_run};
 use npa_model::Run;
@@ -71,6 +71,7 @@ pub(crate) fn load_module<F: Files>(
     ensures texts_stay { (n : List ℕ) → F.holds files.new n ≡ F.holds files.old n }
     ensures faults_stay { (n : List ℕ) → F.faults files.old n ≤ F.faults files.new n }
     ensures told { IfOk result (λ loaded. IfSome (F.holds files.old name.now) (λ text. MatchOption loaded (NoModule text) (λ source. IsModuleText text source))) }
+    ensures only { IfOk result (λ loaded. IfSome (F.holds files.old name.now) (λ text. NoOtherModule text loaded)) }
     ensures form { IfOk result (λ loaded. IfSome loaded IsPlain) }
     ensures fault { IsErrOf result Halt.Fault → Rose (F.faults files.old name.now) (F.faults files.new name.now) }
 {
@@ -96,6 +97,7 @@ pub(crate) fn load_run<F: Files>(
     ensures texts_stay { (n : List ℕ) → F.holds files.new n ≡ F.holds files.old n }
     ensures faults_stay { (n : List ℕ) → F.faults files.old n ≤ F.faults files.new n }
     ensures told { IfOk result (λ loaded. IfSome (F.holds files.old name.now) (λ text. MatchOption loaded (NoRun protocol.now text) (λ run. IsRunText protocol.now text run))) }
+    ensures only { IfOk result (λ loaded. IfSome (F.holds files.old name.now) (λ text. NoOtherRun protocol.now text loaded)) }
     ensures form { IfOk result (λ loaded. IfSome loaded IsGroundRun) }
     ensures fault { IsErrOf result Halt.Fault → Rose (F.faults files.old name.now) (F.faults files.new name.now) }
 {

@@ -6,7 +6,7 @@ ghost use Rattle.std.specs.Result.{IsErrOf};
 ghost use Rattle.npa_text.specs.Counts.{Rose};
 ghost use Rattle.npa_module.specs.Forms.{IsPlain, IsPlainAim};
 ghost use Rattle.npa_main.specs.RunTexts.{IsGroundRun};
-ghost use Rattle.npa_main.specs.Answers.{Shown, Replayed, ReadFault, Prints, PrintsFront, RunReaches, is_told, is_replay, word_at, aim_named};
+ghost use Rattle.npa_main.specs.Answers.{IsFor, IsOnly, Replayed, ReadFault, Prints, PrintsFront, RunReaches, is_told, is_replay, word_at, aim_named};
 
 use crate::files::{Halt, load_module, load_run};
 use crate::printing::{
@@ -72,7 +72,7 @@ pub fn npa_plain<F: Files, K: Sink>(
 
 // The text and the status for the words.
 fn text_for<F: Files>(alloc: Global, words: &Words, files: &mut F) -> Result<Printed, Halt>
-    ensures shown { IfOk result (λ a. Shown (F.holds files.old) words.now a.text.items a.status) }
+    ensures shown { IfOk result (λ a. IsFor (F.holds files.old) words.now a.text.items a.status) }
     ensures fault { IsErrOf result Halt.Fault
         → ReadFault (F.holds files.old) (F.faults files.old) (F.faults files.new) words.now }
 {
@@ -104,6 +104,7 @@ fn replayed(alloc: Global, source: &Source, aim: &Aim, run: &Run) -> Result<Prin
     requires aim { IsPlainAim aim.now }
     requires run { IsGroundRun run.now }
     ensures replayed { IfOk result (λ a. Replayed source.now.protocol aim.now run.now a.text.items a.status) }
+    ensures only { IfOk result (λ a. IsOnly (Replayed source.now.protocol aim.now run.now) a.text.items a.status) }
     ensures read { IsErrOf result Halt.Fault → ⊥ }
 {
     let answer = match replay(alloc, &source.protocol, aim, run) {
