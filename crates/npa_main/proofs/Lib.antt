@@ -3,3 +3,4 @@ pub mod PlainLaws
 pub mod Loading
 pub mod Showing
 pub mod Unique
+pub mod Reaching

@@ -101,11 +101,13 @@ pub record PrintsFront (told : List ℕ → Option (List ℕ)) (words : List (Li
   pub shown : IsFor told words text status
   pub front : AppendsFront before after text
 
--- The files hold a module and a run of its protocol, and the run reaches the module's aim of that name.
+-- The words ask for a replay, the files hold a module and a run of its protocol, and the run reaches
+-- the module's aim of that name.
 pub record RunReaches (told : List ℕ → Option (List ℕ)) (words : List (List ℕ)) : Type 0 where
   pub source : Source
   pub aim : Aim
   pub run : Run
+  pub command : is_replay words ≡ true
   pub module_is : IfSome (told (word_at words 1)) (λ text. IsModuleText text source)
   pub aim_is : aim_named (word_at words 2) source.aims ≡ Some aim
   pub run_is : IfSome (told (word_at words 3)) (λ text. IsRunText source.protocol text run)

@@ -6,7 +6,7 @@ ghost use Rattle.std.specs.Result.{IsErrOf};
 ghost use Rattle.npa_text.specs.Counts.{Rose};
 ghost use Rattle.npa_module.specs.Forms.{IsPlain, IsPlainAim};
 ghost use Rattle.npa_main.specs.RunTexts.{IsGroundRun};
-ghost use Rattle.npa_main.specs.Answers.{IsFor, IsOnly, Replayed, ReadFault, Prints, PrintsFront, RunReaches, is_told, is_replay, word_at, aim_named};
+ghost use Rattle.npa_main.specs.Answers.{IsFor, IsOnly, AreTold, Replayed, ReadFault, Prints, PrintsFront, RunReaches, is_told, is_replay, word_at, aim_named};
 
 use crate::files::{Halt, load_module, load_run};
 use crate::printing::{
@@ -36,6 +36,7 @@ struct Printed {
 
 /// Does what the words ask for: `replay FILE AIM RUN` replays the run of the file RUN against an aim
 /// of the module of FILE. The text is made first and written at once.
+#[tactic(auto, using(crate::proofs::Reaching::reached_status))]
 pub fn npa_plain<F: Files, K: Sink>(
     alloc: Global,
     words: &Words,
@@ -46,8 +47,11 @@ pub fn npa_plain<F: Files, K: Sink>(
     ensures printed { is_told result.status ≡ true
         → Prints (F.holds files.old) words.now (K.written out.old) (K.written out.new) result.status }
 
-    // `reaches` comes only of a run that reaches the aim.
+    // `reaches` comes only of a run that reaches the aim, and where the files' texts are known, of
+    // each such run whose text is written.
     ensures reaches { result.status ≡ 0 → RunReaches (F.holds files.old) words.now }
+    ensures reached { is_told result.status ≡ true → AreTold (F.holds files.old) words.now
+        → RunReaches (F.holds files.old) words.now → result.status ≡ 0 }
     ensures unread { result.status ≡ 4
         → ReadFault (F.holds files.old) (F.faults files.old) (F.faults files.new) words.now }
     ensures unwritten { result.status ≡ 5 → Rose (K.faults out.old) (K.faults out.new) }
