@@ -11,8 +11,9 @@ use crate::run_text::{RunError, read_run};
 use npa_model::Run;
 use npa_module::{ReadError, Source, read};
 use npa_sig::Protocol;
+use npa_term::NoMemory;
 use npa_text::{Files, ReadFail};
-use std::alloc::{AllocError, AllocFailed, Global};
+use std::alloc::{AllocError, Global};
 use thiserror::Error;
 
 /// Why there is no text to print.
@@ -35,12 +36,12 @@ impl From<AllocError> for Halt {
     }
 }
 
-impl<T: Drop> From<AllocFailed<T>> for Halt {
+impl From<NoMemory> for Halt {
     ghost use Rattle.npa_main.specs.declared.files.Halt.TheVariants.{NoMemory as OutOfMemory};
 
     ghost from_gives = { λ _ e. e ≡ OutOfMemory };
 
-    fn from(_error: AllocFailed<T>) -> Halt {
+    fn from(_error: NoMemory) -> Halt {
         Halt::NoMemory
     }
 }

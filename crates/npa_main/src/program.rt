@@ -111,14 +111,8 @@ fn replayed(alloc: Global, source: &Source, aim: &Aim, run: &Run) -> Result<Prin
     ensures only { IfOk result (λ a. IsOnly (Replayed source.now.protocol aim.now run.now) a.text.items a.status) }
     ensures read { IsErrOf result Halt.Fault → ⊥ }
 {
-    let answer = match replay(alloc, &source.protocol, aim, run) {
-        Ok(answer) => answer,
-        Err(_) => return Err(Halt::NoMemory),
-    };
-    let text = match answer_text(alloc, &source.protocol, run, &answer) {
-        Ok(text) => text,
-        Err(_) => return Err(Halt::NoMemory),
-    };
+    let answer = replay(alloc, &source.protocol, aim, run)?;
+    let text = answer_text(alloc, &source.protocol, run, &answer)?;
     let status = answer_status(&answer);
     Ok(Printed { text, status })
 }
