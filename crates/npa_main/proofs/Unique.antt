@@ -127,7 +127,7 @@ module _ (told : List ℕ → Option (List ℕ)) (words : List (List ℕ)) where
           for_run text status p only = record {
             shown = replayed source aim run text status is m a r p;
             only = λ known. only_shown told words known is source (the_module known) (one_module known) aim a run text status
-              (run_at told words known (λ t. IsRunText source.protocol t run) r) (one_run known) only;
+                (run_at told words known (λ t. IsRunText source.protocol t run) r) (one_run known) only;
           }
 
           pub for_replayed : (p : Result Printed Halt) → IfOk p (λ x. Replayed source.protocol aim run x.text.items x.status) →

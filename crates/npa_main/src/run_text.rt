@@ -80,10 +80,7 @@ fn read_tree(
     ensures { Gives result (run_of bytes.now tokens.now protocol.now nodes.now) }
 {
     let used = all_with(alloc, USED, nodes)?;
-    let instances = match read_instances(alloc, bytes, tokens, protocol, used.as_slice()) {
-        Ok(instances) => instances,
-        Err(error) => return Err(error),
-    };
+    let instances = read_instances(alloc, bytes, tokens, protocol, used.as_slice())?;
     let steps = all_with(alloc, STEP, below(SCHEDULE, nodes))?;
     let schedule = steps_at(alloc, bytes, tokens, steps.as_slice())?;
     Ok(Run {
@@ -121,10 +118,7 @@ fn read_instances(
 {
     let mut instances = List::new(alloc);
     for node in nodes {
-        match read_instance(alloc, bytes, tokens, protocol, *node) {
-            Ok(instance) => instances.push(instance)?,
-            Err(error) => return Err(error),
-        }
+        instances.push(read_instance(alloc, bytes, tokens, protocol, *node)?)?;
     }
     Ok(instances)
 }
@@ -146,10 +140,7 @@ fn read_instance(
         None => return Err(RunError::Later),
     };
     let values = all_with(alloc, VALUE, nodes)?;
-    let terms = match read_values(alloc, bytes, tokens, protocol, values.as_slice()) {
-        Ok(terms) => terms,
-        Err(error) => return Err(error),
-    };
+    let terms = read_values(alloc, bytes, tokens, protocol, values.as_slice())?;
     let params = params_at(protocol, strand);
     let named = same_names(bytes, tokens, values.as_slice(), params);
     let args = args_of(alloc, named, params.len(), terms)?;
@@ -220,10 +211,7 @@ fn read_values(
 {
     let mut terms = List::new(alloc);
     for node in nodes {
-        match read_value(alloc, bytes, tokens, protocol, *node) {
-            Ok(term) => terms.push(term)?,
-            Err(error) => return Err(error),
-        }
+        terms.push(read_value(alloc, bytes, tokens, protocol, *node)?)?;
     }
     Ok(terms)
 }

@@ -29,7 +29,7 @@ returns-in-None-find_aim-clause-shown g c =
     (holds_one holds holds (λ n. refl) c.word.result.now (word_at c.args.words.now 1) c.word.ensures c.in_ok-source.field-0 NoModule IsModuleText c.in_ok-source.ensures.told c.in-Some.source c.in-Some.is)
     (moved holds holds (λ n. refl) c.word.result.now (word_at c.args.words.now 1) c.word.ensures c.in_ok-source.field-0 NoModule IsModuleText c.in_ok-source.ensures.told (λ text. NoOtherModule text c.in_ok-source.field-0) c.in_ok-source.ensures.only)
     c.in-Some.is
-      (named ∙ ap option_copied c.in-None-find_aim.is) in
+    (named ∙ ap option_copied c.in-None-find_aim.is) in
     subst (λ l. IsFor holds c.args.words.now l 3)
     (sym (c.in_ok-text-in-None-find_aim.ensures ∙ ap refused_no_aim (c.as_bytes-in-None-find_aim.ensures.value ∙ c.word-in-None-find_aim.ensures))) shown
 
