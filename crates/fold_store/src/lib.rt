@@ -1,0 +1,7 @@
+//! The folding store: the entries of a search and its history. Each call on it is one event of the
+//! machine of `fold_core`, so whatever its callers do, what holds of the machine holds of it.
+#![tactic(auto)]
+
+mod entry;
+mod journal;
+mod table;
