@@ -219,7 +219,7 @@ counted_step {r = r} {budget = budget} {before = before} (finish n ps children d
 counted_step {before = before} (halt n why free x) old = still before (Halt n why) refl (record { number = old.number; different = old.different; over = old.over; below = old.below })
 counted_step {before = before} reset old = still before Reset refl (counted_reset old)
 
-counted_after : {I : Type 0} {r : Rules I} {roots : List I} {budget : ℕ} {history : List Event} {c : Core I} → After r roots budget history c → Counted budget (finishes history) c
+pub counted_after : {I : Type 0} {r : Rules I} {roots : List I} {budget : ℕ} {history : List Event} {c : Core I} → After r roots budget history c → Counted budget (finishes history) c
 counted_after begin = record {
   number = refl;
   different = λ i j n s t. absurd (let q = s.is in cc);
