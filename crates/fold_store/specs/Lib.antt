@@ -1,2 +1,4 @@
 pub mod Journal
+pub mod Store
 pub mod Table
+pub mod Work

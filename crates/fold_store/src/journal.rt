@@ -54,6 +54,15 @@ impl Journal {
         Ok(())
     }
 
+    /// Needs so much less room.
+    pub(crate) fn withdraw(&mut self, less: usize)
+        requires { less ≤ self.old.due }
+        ensures events { self.new.events ≡ self.old.events }
+        ensures due { self.new.due + less ≡ self.old.due }
+    {
+        self.due -= less;
+    }
+
     /// Writes an event where there is room for it.
     pub(crate) fn note(&mut self, event: Event)
         requires { 0 < self.old.due }

@@ -2,6 +2,14 @@
 //! machine of `fold_core`, so whatever its callers do, what holds of the machine holds of it.
 #![tactic(auto)]
 
+mod answer;
 mod entry;
+mod error;
 mod journal;
+mod ledger;
 mod table;
+mod work;
+
+pub use answer::{Taken, Verdict};
+pub use error::{InsertFail, StoreFail};
+pub use work::Work;

@@ -209,7 +209,8 @@ impl<I> Table<I> {
 
     /// Whether there is no room for one more.
     pub(crate) fn is_full(&self) -> bool
-        ensures { IsTrue result ↔ (length self.now ≡ most_entries) }
+        ensures full { IsTrue result ↔ (length self.now ≡ most_entries) }
+        ensures few { length self.now ≤ most_entries }
     {
         self.entries.len() == MOST_ENTRIES
     }

@@ -1,0 +1,257 @@
+ghost use Rattle.std.specs.Prelude.{◌≡◌, ◌≢◌, ◌<◌, ◌≤◌, ◌+◌, ◌↔◌, ℕ, [], ◌∷◌, ◌++◌, length, None, Some, IsTrue, IfOk, OnOk, OnErr};
+ghost use Rattle.std.specs.Option.{option_copied};
+ghost use Rattle.std.specs.Result.{IsErrOf};
+ghost use Rattle.fold_core.specs.declared.event.Event.TheVariants.{Insert};
+ghost use Rattle.fold_core.specs.Machine.{Core, Stands, empty, first_found, kept, Step};
+ghost use Rattle.fold_store.specs.Table.{most_entries};
+ghost use Rattle.fold_store.specs.Store.{State, Next, event_of, MayPlace, NoRoom, Takes, item_at, IsFor, NoRoomFor};
+
+use crate::answer::Taken;
+use crate::error::{InsertFail, StoreFail};
+use crate::journal::Journal;
+use crate::table;
+use crate::table::Table;
+use crate::work::Work;
+use fold_core::{Event, Folding, Large, NoMemory, Origin, Placed};
+use npa_list::List;
+use std::alloc::Global;
+use std::marker::Model;
+
+/// A run of the machine: what the search began with, its events so far, and the state that they
+/// led to.
+#[derive(Drop)]
+pub(crate) struct Ledger<F: Folding> {
+    rules: F,
+    roots: List<F::Item>,
+    budget: u32,
+    table: Table<F::Item>,
+    /// The first entry whose item is initial.
+    found: Option<u32>,
+    /// What was past a limit, where the search was halted.
+    halted: Option<Large>,
+    /// How many expansions are finished.
+    finished: u32,
+    journal: Journal,
+}
+
+impl<F: Folding> Model for Ledger<F> {
+    ghost use Rattle.fold_store.specs.Store.{State, Sound};
+
+    ghost Value = { State F F.Item };
+
+    ghost view = { λ l. record {
+      rules = l.rules;
+      roots = l.roots;
+      budget = l.budget;
+      history = l.journal.events;
+      core = record { entries = l.table; found = l.found; halted = l.halted; finished = l.finished };
+    } };
+
+    ghost invariant = { λ l. Sound (F.rules l.rules) l.roots l.budget l.journal.events
+      (record { entries = l.table; found = l.found; halted = l.halted; finished = l.finished }) l.journal.due };
+}
+
+/// The event by which an item of this origin is placed.
+fn event_of(origin: Origin, placed: Placed) -> Event
+    ensures { result ≡ event_of origin placed }
+{
+    match origin {
+        Origin::Root(number) => Event::Root { number, placed },
+        Origin::Child { parent, child } => Event::Insert {
+            parent,
+            child,
+            placed,
+        },
+    }
+}
+
+/// What was found first, once entry `number` is kept.
+fn first_found(found: Option<u32>, initial: bool, number: u32) -> Option<u32>
+    ensures { result ≡ first_found found initial number }
+{
+    if found.is_none() && initial {
+        Some(number)
+    } else {
+        found
+    }
+}
+
+impl<F: Folding> Ledger<F> {
+    /// The beginning: no event yet.
+    pub(crate) fn new(
+        alloc: Global,
+        rules: F,
+        roots: List<F::Item>,
+        budget: u32,
+    ) -> Result<Ledger<F>, NoMemory>
+        where F: Drop,
+        ensures { IfOk result (λ l. l ≡ record { rules = rules; roots = roots; budget = budget; history = []; core = empty }) }
+    {
+        let mut journal = Journal::new(alloc);
+        journal.promise(1)?;
+        Ok(Ledger {
+            rules,
+            roots,
+            budget,
+            table: Table::new(alloc),
+            found: None,
+            halted: None,
+            finished: 0,
+            journal,
+        })
+    }
+
+    /// The rules.
+    pub(crate) fn rules(&self) -> &F
+        ensures { result.now ≡ self.now.rules }
+    {
+        &self.rules
+    }
+
+    /// The entries.
+    pub(crate) fn table(&self) -> &Table<F::Item>
+        ensures { result.now ≡ self.now.core.entries }
+    {
+        &self.table
+    }
+
+    /// The item of an entry: `None` exactly where there is no such entry.
+    pub(crate) fn item(&self, id: u32) -> Option<&F::Item>
+        ensures { option_copied result ≡ item_at self.now.core.entries id }
+    {
+        match self.table.get(id) {
+            Some(kept) => Some(kept.item()),
+            None => None,
+        }
+    }
+
+    /// How many expansions are finished.
+    pub(crate) fn finished(&self) -> u32
+        ensures { result ≡ self.now.core.finished }
+    {
+        self.finished
+    }
+
+    /// Takes the least entry that waits, where the search goes on and the budget allows it.
+    pub(crate) fn take(&mut self) -> Taken
+        ensures { Takes (F.rules self.old.rules) self.old result self.new }
+    {
+        if self.found.is_some() || self.halted.is_some() {
+            return Taken::Stopped;
+        }
+        let Some(number) = self.table.first_waiting() else {
+            return Taken::Nothing;
+        };
+        let left = (self.budget - self.finished) as usize;
+        if self.table.taken() >= left {
+            return Taken::Spent;
+        }
+        self.table.take(number);
+        self.journal.note(Event::Take { entry: number });
+        Taken::Got(number)
+    }
+
+    /// Writes an event that changes nothing else.
+    fn write(&mut self, event: Event) -> Result<(), NoMemory>
+        requires { Step (F.rules self.old.rules) self.old.roots self.old.budget self.old.history self.old.core event self.old.core }
+        ensures ok { OnOk result (Next (F.rules self.old.rules) self.old event self.new) }
+        ensures err { OnErr result (self.new ≡ self.old) }
+    {
+        self.journal.promise(1)?;
+        self.journal.note(event);
+        Ok(())
+    }
+
+    /// Keeps an item by the event.
+    fn keep(
+        &mut self,
+        alloc: Global,
+        item: &F::Item,
+        origin: Origin,
+        event: Event,
+    ) -> Result<(), NoMemory>
+        requires room { length self.old.core.entries < most_entries }
+        requires step { Step (F.rules self.old.rules) self.old.roots self.old.budget self.old.history self.old.core event
+          (kept (F.rules self.old.rules) (length self.old.history) item.now origin self.old.core) }
+        ensures ok { OnOk result (Next (F.rules self.old.rules) self.old event self.new) }
+        ensures err { OnErr result (self.new ≡ self.old) }
+    {
+        let copy = F::copy_item(alloc, item)?;
+        let number = self.table.len();
+        let tick = self.journal.len() as u64;
+        self.journal.promise(3)?;
+        match table::keep(alloc, &self.rules, &mut self.table, copy, origin, tick) {
+            Ok(()) => {}
+            Err(fail) => {
+                self.journal.withdraw(3);
+                return Err(fail);
+            }
+        }
+        self.found = first_found(self.found, self.rules.initial(item), number);
+        self.journal.note(event);
+        Ok(())
+    }
+
+    /// Places an item by an event of its own.
+    pub(crate) fn place(
+        &mut self,
+        alloc: Global,
+        item: &F::Item,
+        origin: Origin,
+    ) -> Result<Placed, StoreFail>
+        requires { MayPlace (F.rules self.old.rules) self.old origin item.now }
+        ensures ok { IfOk result (λ p. Next (F.rules self.old.rules) self.old (event_of origin p) self.new) }
+        ensures full { IsErrOf result StoreFail.Full → NoRoom (F.rules self.old.rules) item.now self.old.core }
+        ensures err { OnErr result (self.new ≡ self.old) }
+    {
+        if let Some(cover) = table::least_cover(alloc, &self.rules, &self.table, item)? {
+            let placed = Placed::Folded(cover);
+            self.write(event_of(origin, placed))?;
+            return Ok(placed);
+        }
+        if self.table.is_full() {
+            return Err(StoreFail::Full);
+        }
+        let placed = Placed::Kept(self.table.len());
+        self.keep(alloc, item, origin, event_of(origin, placed))?;
+        Ok(placed)
+    }
+
+    /// Whether the work is that of the entry, which is taken.
+    fn is_for(&self, id: u32, work: &Work<'_, F>) -> bool
+        ensures { IsTrue result ↔ IsFor self.now id work.now }
+    {
+        let Some(kept) = self.table.get(id) else {
+            return false;
+        };
+        if !kept.status().is_taken() {
+            return false;
+        }
+        if !F::same_item(kept.item(), work.item()) {
+            return false;
+        }
+        self.rules.same(work.rules())
+    }
+
+    /// Places a child of a taken entry.
+    pub(crate) fn insert(
+        &mut self,
+        alloc: Global,
+        id: u32,
+        work: &Work<'_, F>,
+        child: u64,
+    ) -> Result<Placed, InsertFail>
+        requires { child < length work.now.children }
+        ensures ok { IfOk result (λ p. Next (F.rules self.old.rules) self.old (Insert id child p) self.new) }
+        ensures stranger { IsErrOf result InsertFail.Stranger ↔ (IsFor self.old id work.now → ⊥) }
+        ensures full { IsErrOf result InsertFail.Full → NoRoomFor (F.rules self.old.rules) self.old work.now child }
+        ensures err { OnErr result (self.new ≡ self.old) }
+    {
+        if !self.is_for(id, work) {
+            return Err(InsertFail::Stranger);
+        }
+        let origin = Origin::Child { parent: id, child };
+        let placed = self.place(alloc, work.child(child), origin)?;
+        Ok(placed)
+    }
+}
