@@ -1,7 +1,7 @@
 -- Each call's event is a step of the machine, and there is room for it.
 use Rattle.std.proofs.Common.{◌≡◌, ◌⊎◌, inl, inr, ℕ, zero, suc, ◌+◌, ◌-◌, ◌<◌, ◌≤◌, ◌↔◌, Bool, true, false, ◌&&◌, cond, List, [], ◌∷◌, ◌++◌, length, map, set, Option, None, Some, IsSome, IsTrue, Result, Ok, Err, slice_get, refl, ap, sym, ◌∙◌, subst, arith, length-append, length-set}
 use Rattle.std.proofs.lemmas.List.{length-map}
-use Rattle.std.proofs.lemmas.List.Sums.{sum_by-cons, sum_by_push}
+use Rattle.std.proofs.lemmas.List.Sums.{sum_by-cons, sum_by_push, count_by-le-length}
 use Rattle.fold_core.specs.declared.error.Large.{Large}
 use Rattle.fold_core.specs.declared.event.Placed.{Placed}
 use Rattle.fold_core.specs.declared.event.Placed.TheVariants.{Kept, Folded}
@@ -214,3 +214,56 @@ spent_is s t es n here same found halted least all =
     let some : IsSome (least_waiting s.core.entries) = subst IsSome (sym least) refl in
     (back, subst (λ v. GoesOn v.core) here (record { not_found = found; not_halted = halted }), subst (λ v. IsSome (least_waiting v.core.entries)) here some,
       subst (λ v. taken_count v.core.entries + v.core.finished ≡ v.budget) here all)
+
+-- The search is halted.
+pub sound_halt : {I : Type 0} {r : Rules I} {roots : List I} {budget : ℕ} {history events : List Event} {c : Core I} {n : ℕ} {why : Large} {due : ℕ} (now : ℕ)
+    → Sound r roots budget history c due → c.halted ≡ None → Overflowing r n why c → events ≡ history ++ Halt n why ∷ [] → now + 1 ≡ due
+    → Sound r roots budget events (record c { halted = Some why }) now
+sound_halt {n = n} {why = why} now s free over is q =
+    let room = s.room in
+    let one = ap owed_halt free in
+    sound_next now s (halt n why free over) is (omega arith) s.few
+
+pub next_halt : {F I : Type 0} (rules : F → Rules I) (s t : State F I) (n : ℕ) (why : Large) (events : List Event) → s ≡ t → s.core.halted ≡ None → Overflowing (rules t.rules) n why t.core
+    → events ≡ s.history ++ Halt n why ∷ [] → Next (rules t.rules) t (Halt n why) (record s { history = events; core = record s.core { halted = Some why } })
+next_halt rules s t n why events here free over is =
+    let same_over = subst (λ w. Overflowing (rules w.rules) n why w.core) (sym here) over in
+    subst (λ w. Next (rules w.rules) w (Halt n why) (record s { history = events; core = record s.core { halted = Some why } })) here
+    (record { step = halt n why free same_over; same = ap (λ h. record s { history = h; core = record s.core { halted = Some why } }) is })
+
+-- What is taken waits again.
+owed_put_back : {I : Type 0} (es : List (Entry I)) → owed (map put_back_entry es) ≤ owed es + taken_count es
+owed_put_back [] = omega arith
+owed_put_back (e ∷ es) =
+    let now = sum_by-cons (λ w. owed_by w.status) (put_back_entry e) (map put_back_entry es) in
+    let before = sum_by-cons (λ w. owed_by w.status) e es in
+    let taken = sum_by-cons (λ (w : Entry _). cond (is_taken w.status) 1 0) e es in
+    let rest = owed_put_back es in
+    let head = by e.status in
+    omega arith
+  where
+    by : (s : Status) → owed_by (put_back s) ≤ owed_by s + cond (is_taken s) 1 0
+    by Waiting = omega arith
+    by Taken = omega arith
+    by Finished = omega arith
+    by (Retired to tick taken) = omega arith
+
+pub sound_reset : {I : Type 0} {r : Rules I} {roots : List I} {budget : ℕ} {history events : List Event} {c : Core I} {es : List (Entry I)} {due : ℕ} (promised taken now : ℕ)
+    → Sound r roots budget history c due → es ≡ map put_back_entry c.entries → taken ≡ taken_count c.entries → events ≡ history ++ Reset ∷ [] → promised ≡ due + (taken + 1) → now + 1 ≡ promised
+    → Sound r roots budget events (record c { entries = es }) now
+sound_reset {r = r} {roots = roots} {budget = budget} {history = history} {events = events} {c = c} promised taken now s made count is p q =
+    let room = s.room in
+    let few = s.few in
+    let owes = owed_put_back c.entries in
+    let many = length-map c.entries put_back_entry in
+    subst (λ w. Sound r roots budget events (record c { entries = w }) now) (sym made) (sound_next now s reset is (omega arith) (omega arith))
+
+pub next_reset : {F I : Type 0} (rules : F → Rules I) (s t : State F I) (es : List (Entry I)) (events : List Event) → s ≡ t → es ≡ map put_back_entry s.core.entries
+    → events ≡ s.history ++ Reset ∷ [] → Next (rules t.rules) t Reset (record s { history = events; core = record s.core { entries = es } })
+next_reset rules s t es events here made is =
+    subst (λ w. Next (rules w.rules) w Reset (record s { history = events; core = record s.core { entries = es } })) here
+    (subst (λ w. Next (rules s.rules) s Reset (record s { history = events; core = record s.core { entries = w } })) (sym made)
+    (record { step = reset; same = ap (λ h. record s { history = h; core = record s.core { entries = map put_back_entry s.core.entries } }) is }))
+
+pub taken_few : {I : Type 0} {r : Rules I} {roots : List I} {budget : ℕ} {history : List Event} {c : Core I} {due : ℕ} → Sound r roots budget history c due → taken_count c.entries ≤ most_entries
+taken_few {c = c} s = let few = s.few in let h = count_by-le-length (λ (e : Entry _). is_taken e.status) c.entries in omega arith

@@ -1,3 +1,4 @@
 pub mod Numbers
 pub mod Indexing
+pub mod Walks
 pub mod Events

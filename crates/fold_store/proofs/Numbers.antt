@@ -29,6 +29,11 @@ stands_at [] k h = absurd (omega arith)
 stands_at (x ∷ xs) zero h = (x, record { is = refl })
 stands_at (x ∷ xs) (suc k) h = let rest = stands_at xs k (omega arith) in (rest.0, record { is = rest.1.is })
 
+pub stands_get : {X : Type 0} (xs : List X) (k : ℕ) (x d : X) → k < length xs → x ≡ get_or xs k d → Stands xs k x
+stands_get [] k x d h is = absurd (omega arith)
+stands_get (z ∷ xs) zero x d h is = record { is = ap (λ w. Some w) (sym is) }
+stands_get (z ∷ xs) (suc k) x d h is = let rest = stands_get xs k x d (omega arith) is in record { is = rest.is }
+
 put_back_at : {X : Type 0} (f : X → X) (xs : List X) (k : ℕ) (e : X) → slice_get xs k ≡ Some e
     → (slice_get (map f (take k xs) ++ drop k xs) k ≡ Some e) × (set (map f (take k xs) ++ drop k xs) k (f e) ≡ map f (take (suc k) xs) ++ drop (suc k) xs)
 put_back_at f [] k e s = absurd (cc)

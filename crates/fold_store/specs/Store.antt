@@ -11,7 +11,7 @@ use Rattle.fold_core.specs.declared.event.Status.TheVariants.{Waiting, Taken as 
 use Rattle.fold_core.specs.declared.event.Event.{Event}
 use Rattle.fold_core.specs.declared.event.Event.TheVariants.{Root, Take, Insert}
 use Rattle.fold_core.specs.Rules.{Rules}
-use Rattle.fold_core.specs.Machine.{Entry, Core, Stands, is_live, is_taken, least_cover, least_waiting, taken_count, roots_placed, NextRoot, Expanding, Step, After}
+use Rattle.fold_core.specs.Machine.{Entry, Core, Stands, is_taken, least_cover, least_waiting, taken_count, roots_placed, NextRoot, Expanding, Step, After}
 use Rattle.fold_store.specs.declared.answer.Taken.{Taken}
 use Rattle.fold_store.specs.declared.answer.Taken.TheVariants.{Got, Nothing, Spent, Stopped}
 use Rattle.fold_store.specs.declared.answer.Verdict.{Verdict}
@@ -20,7 +20,7 @@ use Rattle.fold_store.specs.declared.error.StoreFail.{StoreFail}
 use Rattle.fold_store.specs.declared.error.StoreFail.TheVariants.{Full, NoMemory}
 use Rattle.fold_store.specs.declared.error.InsertFail.{InsertFail}
 use Rattle.fold_store.specs.declared.error.InsertFail.TheVariants.{Full as InsertFull, NoMemory as InsertNoMemory}
-use Rattle.fold_store.specs.Table.{most_entries}
+use Rattle.fold_store.specs.Table.{most_entries, AllFinished}
 use Rattle.fold_store.specs.Work.{Expansion}
 
 -- A store: what the search began with, the events so far, and the state that they led to.
@@ -96,6 +96,9 @@ Takes r s Stopped t = (t ≡ s) × (IsSome s.core.found ⊎ IsSome s.core.halted
 abbrev pub item_at : {I : Type 0} → List (Entry I) → ℕ → Option I
 item_at es n = option_map (λ e. e.item) (slice_get es n)
 
+abbrev pub origin_at : {I : Type 0} → List (Entry I) → ℕ → Option Origin
+origin_at es n = option_map (λ e. e.origin) (slice_get es n)
+
 -- The work is that of entry n: the entry is taken, its item is the work's, and the rules are.
 pub record IsFor {F I : Type 0} (s : State F I) (n : ℕ) (w : Expansion F I) : Type 0 where
   pub entry : Entry I
@@ -113,10 +116,6 @@ pub record NoRoomFor {F I : Type 0} (r : Rules I) (s : State F I) (w : Expansion
 abbrev pub insert_fail : StoreFail → InsertFail
 insert_fail Full = InsertFull
 insert_fail NoMemory = InsertNoMemory
-
--- Every live entry is finished.
-pub record AllFinished {I : Type 0} (es : List (Entry I)) : Type 0 where
-  pub finished : (n : ℕ) (e : Entry I) → Stands es n e → is_live e.status ≡ true → e.status ≡ Finished
 
 -- How the search stands: the first of these that holds.
 abbrev pub Stands_so : {I : Type 0} → ℕ → Core I → Verdict → Type 0

@@ -2,7 +2,8 @@
 use Rattle.std.specs.Prelude.{◌≡◌, ℕ, ◌+◌, ◌<◌, ◌≤◌, ◌++◌, Bool, true, false, ◌&&◌, not, if◌then◌else◌, List, [], ◌∷◌, length, Option, None, Some, slice_get, slice_set}
 use Rattle.std.specs.List.{filter}
 use Rattle.fold_core.specs.declared.event.Origin.{Origin}
-use Rattle.fold_core.specs.declared.event.Status.TheVariants.{Waiting, Retired}
+use Rattle.fold_core.specs.declared.event.Status.{Status}
+use Rattle.fold_core.specs.declared.event.Status.TheVariants.{Waiting, Taken, Finished, Retired}
 use Rattle.fold_core.specs.Rules.{Rules}
 use Rattle.fold_core.specs.Machine.{Entry, Stands, is_live, is_waiting, is_taken, taken_count}
 
@@ -77,3 +78,22 @@ pub record SplitsLive {I : Type 0} (covered others : List ℕ) (es : List (Entry
   pub test : Entry I → Bool
   pub covered_is : covered ≡ numbers_where (λ e. is_live e.status && test e) 0 es
   pub others_is : others ≡ numbers_where (λ e. is_live e.status && not (test e)) 0 es
+
+-- Every live entry is finished.
+pub record AllFinished {I : Type 0} (es : List (Entry I)) : Type 0 where
+  pub finished : (n : ℕ) (e : Entry I) → Stands es n e → is_live e.status ≡ true → e.status ≡ Finished
+
+abbrev pub is_finished : Status → Bool
+is_finished Waiting = false
+is_finished Taken = false
+is_finished Finished = true
+is_finished (Retired to tick taken) = false
+
+-- Entry n isn't finished.
+abbrev pub unfinished_at : {I : Type 0} → List (Entry I) → ℕ → Bool
+unfinished_at es n = passes (λ e. not (is_finished e.status)) (slice_get es n)
+
+-- Each pointer leads to a later entry.
+pub record PointsForward {I : Type 0} (es : List (Entry I)) : Type 0 where
+  pub later : (n : ℕ) (e : Entry I) (to tick : ℕ) (taken : Bool) → Stands es n e → e.status ≡ Retired to tick taken → n < to
+  pub within : (n : ℕ) (e : Entry I) (to tick : ℕ) (taken : Bool) → Stands es n e → e.status ≡ Retired to tick taken → to < length es

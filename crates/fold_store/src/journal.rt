@@ -44,7 +44,6 @@ impl Journal {
 
     /// Makes room for so many more events.
     pub(crate) fn promise(&mut self, more: usize) -> Result<(), NoMemory>
-        requires { more < 200000 }
         ensures ok { OnOk result (self.new ≡ record self.old { due = self.old.due + more }) }
         ensures err { OnErr result (self.new ≡ self.old) }
     {

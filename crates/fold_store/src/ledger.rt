@@ -1,12 +1,13 @@
-ghost use Rattle.std.specs.Prelude.{◌≡◌, ◌≢◌, ◌<◌, ◌≤◌, ◌+◌, ◌↔◌, ℕ, [], ◌∷◌, ◌++◌, length, None, Some, IsTrue, IfOk, OnOk, OnErr};
+ghost use Rattle.std.specs.Prelude.{◌≡◌, ◌≢◌, ◌<◌, ◌≤◌, ◌+◌, ◌↔◌, ℕ, [], ◌∷◌, ◌++◌, length, None, Some, IsTrue, IsSome, IfOk, OnOk, OnErr};
 ghost use Rattle.std.specs.Option.{option_copied};
 ghost use Rattle.std.specs.Result.{IsErrOf};
-ghost use Rattle.fold_core.specs.declared.event.Event.TheVariants.{Insert};
-ghost use Rattle.fold_core.specs.Machine.{Core, Stands, empty, first_found, kept, Step};
+ghost use Rattle.fold_core.specs.declared.event.Event.TheVariants.{Insert, Halt, Reset};
+ghost use Rattle.fold_core.specs.Machine.{Entry, Core, Stands, LiveCover, Overflowing, empty, first_found, kept, Step, After};
+ghost use Rattle.fold_core.specs.Facts.{Leads};
 ghost use Rattle.fold_store.specs.Table.{most_entries};
-ghost use Rattle.fold_store.specs.Store.{State, Next, event_of, MayPlace, NoRoom, Takes, item_at, IsFor, NoRoomFor};
+ghost use Rattle.fold_store.specs.Store.{State, Next, event_of, MayPlace, NoRoom, Takes, item_at, origin_at, IsFor, NoRoomFor, Stands_so};
 
-use crate::answer::Taken;
+use crate::answer::{Taken, Verdict};
 use crate::error::{InsertFail, StoreFail};
 use crate::journal::Journal;
 use crate::table;
@@ -253,5 +254,76 @@ impl<F: Folding> Ledger<F> {
         let origin = Origin::Child { parent: id, child };
         let placed = self.place(alloc, work.child(child), origin)?;
         Ok(placed)
+    }
+
+    /// Halts the search, since the expansion of the entry is large as `why` says. Where it is
+    /// halted already nothing changes.
+    pub(crate) fn halt(&mut self, id: u32, why: Large)
+        requires { Overflowing (F.rules self.old.rules) id why self.old.core }
+        ensures first { self.old.core.halted ≡ None → Next (F.rules self.old.rules) self.old (Halt id why) self.new }
+        ensures again { IsSome self.old.core.halted → self.new ≡ self.old }
+    {
+        if self.halted.is_some() {
+            return;
+        }
+        self.halted = Some(why);
+        self.journal.note(Event::Halt { entry: id, why });
+    }
+
+    /// What is taken waits again, or isn't taken any more where it is retired.
+    pub(crate) fn reset(&mut self) -> Result<(), NoMemory>
+        ensures ok { OnOk result (Next (F.rules self.old.rules) self.old Reset self.new) }
+        ensures err { OnErr result (self.new ≡ self.old) }
+    {
+        self.journal.promise(self.table.taken() + 1)?;
+        self.table.put_back();
+        self.journal.note(Event::Reset);
+        Ok(())
+    }
+
+    /// How the search stands.
+    pub(crate) fn verdict(&self) -> Verdict
+        ensures { Stands_so self.now.budget self.now.core result }
+    {
+        if let Some(id) = self.found {
+            return Verdict::Found(id);
+        }
+        if let Some(why) = self.halted {
+            return Verdict::Halted(why);
+        }
+        if self.table.all_finished() {
+            return Verdict::Done;
+        }
+        if self.finished == self.budget {
+            return Verdict::Open;
+        }
+        Verdict::Running
+    }
+
+    /// The live entry at the end of the pointers.
+    pub(crate) fn follow(&self, id: u32) -> u32
+        requires { id < length self.now.core.entries }
+        ensures leads { Leads self.now.core.entries id result }
+        ensures covers { (e : Entry F.Item) → Stands self.now.core.entries id e → LiveCover (F.rules self.now.rules) e.item result self.now.core.entries }
+    {
+        self.table.follow(id)
+    }
+
+    /// Where the item of an entry comes from.
+    pub(crate) fn origin(&self, id: u32) -> Option<Origin>
+        ensures { result ≡ origin_at self.now.core.entries id }
+    {
+        match self.table.get(id) {
+            Some(kept) => Some(kept.origin()),
+            None => None,
+        }
+    }
+
+    /// The rules, roots, budget, history and state are those of a run of the machine.
+    pub(crate) fn runs(&self)
+        ensures after { After (F.rules self.now.rules) self.now.roots self.now.budget self.now.history self.now.core }
+        ensures few { length self.now.core.entries ≤ most_entries }
+    {
+        let _journal = &self.journal;
     }
 }

@@ -1,12 +1,13 @@
-ghost use Rattle.std.specs.Prelude.{◌≡◌, ◌<◌, ◌≤◌, ◌+◌, ◌↔◌, ℕ, not, [], ◌∷◌, ◌++◌, length, map, slice_get, slice_set, IsTrue, IfOk, OnOk, OnErr, IfSome};
+ghost use Rattle.std.specs.Prelude.{◌≡◌, ◌<◌, ◌≤◌, ◌+◌, ◌↔◌, ℕ, not, [], ◌∷◌, ◌++◌, length, None, map, slice_get, slice_set, IsTrue, IfOk, OnOk, OnErr, IfSome};
 ghost use Rattle.std.specs.Option.{option_copied};
 ghost use Rattle.std.specs.List.{filter};
 ghost use Rattle.fold_core.specs.declared.event.Status.TheVariants.{Waiting, Taken};
 ghost use Rattle.fold_core.specs.Machine.{Entry, Stands, is_waiting, taken_count, least_cover, least_waiting, overtaken, let_go, put_back_entry};
-ghost use Rattle.fold_store.specs.Table.{most_entries, live_numbers, covers_at, covered_at, first_passing, retire_option, retire_each, NoneWaits, TakenEntry, SplitsLive, with_kept};
+ghost use Rattle.fold_store.specs.Table.{most_entries, live_numbers, covers_at, covered_at, first_passing, retire_option, retire_each, NoneWaits, TakenEntry, SplitsLive, with_kept, unfinished_at, AllFinished, PointsForward};
+ghost use Rattle.fold_core.specs.Facts.{Leads};
 
 use crate::entry::Kept;
-use fold_core::{Folding, NoMemory, Origin};
+use fold_core::{Folding, NoMemory, Origin, Status};
 use std::alloc::Global;
 use std::marker::Model;
 
@@ -154,6 +155,42 @@ fn next_waiting<I>(entries: &[Kept<I>], from: usize) -> usize
     entries.len()
 }
 
+/// Whether there is an entry of this number that isn't finished.
+fn is_unfinished<I>(entries: &[Kept<I>], number: u32) -> bool
+    ensures { result ≡ unfinished_at entries.now number }
+{
+    match entries.get(number as usize) {
+        Some(kept) => !matches!(kept.status(), Status::Finished),
+        None => false,
+    }
+}
+
+/// Whether none of the entries is unfinished.
+#[tactic(auto, using(crate::proofs::Numbers::first_steps))]
+fn none_unfinished<I>(entries: &[Kept<I>], live: &[u32]) -> bool
+    ensures { IsTrue result ↔ (first_passing (unfinished_at entries.now) live.now ≡ None) }
+{
+    for number in live {
+        if is_unfinished(entries, *number) {
+            return false;
+        }
+    }
+    true
+}
+
+/// The live entry at the end of the pointers from an entry.
+fn follow_pointers<I>(entries: &[Kept<I>], from: u32) -> u32
+    requires within { from < length entries.now }
+    requires forward { PointsForward entries.now }
+    ensures { Leads entries.now from result }
+{
+    let mut at = from;
+    while let Status::Retired { to, .. } = entries[at as usize].status() {
+        at = to;
+    }
+    at
+}
+
 /// A worker takes entry `at`.
 fn take_at<I>(entries: &mut Vec<Kept<I>>, at: usize)
     requires { at < length entries.old.items }
@@ -227,6 +264,22 @@ impl<I> Table<I> {
         ensures { result ≡ taken_count self.now }
     {
         self.taken
+    }
+
+    /// Whether every live entry is finished.
+    pub(crate) fn all_finished(&self) -> bool
+        ensures { IsTrue result ↔ AllFinished self.now }
+    {
+        none_unfinished(self.entries.as_slice(), self.live.as_slice())
+    }
+
+    /// The live entry at the end of the pointers from an entry.
+    pub(crate) fn follow(&self, from: u32) -> u32
+        requires within { from < length self.now }
+        requires forward { PointsForward self.now }
+        ensures { Leads self.now from result }
+    {
+        follow_pointers(self.entries.as_slice(), from)
     }
 
     /// The numbers of the live entries, ascending.
