@@ -141,7 +141,7 @@ pub in_budget : {I : Type 0} {r : Rules I} {roots : List I} {budget : ℕ} {hist
 in_budget s = (counted_after s.after).below
 
 -- Entry n, which waits, is taken.
-owed_set : {I : Type 0} (es : List (Entry I)) (n : ℕ) (e f : Entry I) → Stands es n e → owed (set es n f) + owed_by e.status ≡ owed es + owed_by f.status
+pub owed_set : {I : Type 0} (es : List (Entry I)) (n : ℕ) (e f : Entry I) → Stands es n e → owed (set es n f) + owed_by e.status ≡ owed es + owed_by f.status
 owed_set [] n e f s = absurd (let q = s.is in cc)
 owed_set (d ∷ es) zero e f s =
     let now = sum_by-cons (λ w. owed_by w.status) f es in

@@ -102,3 +102,7 @@ live_unless Waiting none = refl
 live_unless Taken none = refl
 live_unless Finished none = refl
 live_unless (Retired to tick taken) none = absurd (none to tick taken refl)
+
+pub leads_live : {I : Type 0} {es : List (Entry I)} {n last : ℕ} → Leads es n last → (e : Entry I) → Stands es last e → is_live e.status ≡ true
+leads_live (ends n d t live) e s = subst (λ w. is_live w.status ≡ true) (stands_one t s) live
+leads_live (follows n last d to tick taken t is rest) e s = leads_live rest e s

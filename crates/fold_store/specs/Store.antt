@@ -1,17 +1,18 @@
 -- What the calls on the store say: each is one event of the machine.
-use Rattle.std.specs.Prelude.{◌≡◌, ◌≢◌, ◌⊎◌, ℕ, ◌+◌, ◌<◌, ◌≤◌, Bool, true, cond, List, [], ◌∷◌, ◌++◌, length, Option, None, Some, IsSome, Ok, slice_get}
+use Rattle.std.specs.Prelude.{◌≡◌, ◌≢◌, ◌⊎◌, ℕ, ◌+◌, ◌<◌, ◌≤◌, Bool, true, cond, List, [], ◌∷◌, ◌++◌, length, Option, None, Some, IsSome, Ok, slice_get, slice_set, map, take}
 use Rattle.std.specs.List.{sum_by}
 use Rattle.std.specs.Option.{option_map}
 use Rattle.fold_core.specs.declared.error.Large.{Large}
 use Rattle.fold_core.specs.declared.event.Placed.{Placed}
+use Rattle.fold_core.specs.declared.event.Placed.TheVariants.{Folded}
 use Rattle.fold_core.specs.declared.event.Origin.{Origin}
 use Rattle.fold_core.specs.declared.event.Origin.TheVariants.{Root as FromRoot, Child}
 use Rattle.fold_core.specs.declared.event.Status.{Status}
 use Rattle.fold_core.specs.declared.event.Status.TheVariants.{Waiting, Taken as IsTaken, Finished, Retired}
 use Rattle.fold_core.specs.declared.event.Event.{Event}
-use Rattle.fold_core.specs.declared.event.Event.TheVariants.{Root, Take, Insert}
+use Rattle.fold_core.specs.declared.event.Event.TheVariants.{Root, Take, Insert, Finish}
 use Rattle.fold_core.specs.Rules.{Rules}
-use Rattle.fold_core.specs.Machine.{Entry, Core, Stands, is_taken, least_cover, least_waiting, taken_count, roots_placed, NextRoot, Expanding, Step, After}
+use Rattle.fold_core.specs.Machine.{Entry, Core, Stands, is_taken, least_cover, least_waiting, taken_count, roots_placed, NextRoot, Expanding, Settles, LiveCover, let_go, placed, place_of, Step, After}
 use Rattle.fold_store.specs.declared.answer.Taken.{Taken}
 use Rattle.fold_store.specs.declared.answer.Taken.TheVariants.{Got, Nothing, Spent, Stopped}
 use Rattle.fold_store.specs.declared.answer.Verdict.{Verdict}
@@ -20,7 +21,7 @@ use Rattle.fold_store.specs.declared.error.StoreFail.{StoreFail}
 use Rattle.fold_store.specs.declared.error.StoreFail.TheVariants.{Full, NoMemory}
 use Rattle.fold_store.specs.declared.error.InsertFail.{InsertFail}
 use Rattle.fold_store.specs.declared.error.InsertFail.TheVariants.{Full as InsertFull, NoMemory as InsertNoMemory}
-use Rattle.fold_store.specs.Table.{most_entries, AllFinished}
+use Rattle.fold_store.specs.Table.{most_entries, AllFinished, TakenEntry, clip_status, clip_entry}
 use Rattle.fold_store.specs.Work.{Expansion}
 
 -- A store: what the search began with, the events so far, and the state that they led to.
@@ -124,3 +125,51 @@ Stands_so budget c (Halted why) = (c.found ≡ None) × (c.halted ≡ Some why)
 Stands_so budget c Done = GoesOn c × AllFinished c.entries
 Stands_so budget c Open = GoesOn c × (AllFinished c.entries → ⊥) × (c.finished ≡ budget)
 Stands_so budget c Running = GoesOn c × (AllFinished c.entries → ⊥) × (c.finished ≢ budget)
+
+-- The state with each tick brought down to the bound: what was retired since then was retired by
+-- the event with the tick of the bound.
+abbrev pub clipped : {I : Type 0} → ℕ → Core I → Core I
+clipped bound c = record c { entries = map (clip_entry bound) c.entries }
+
+-- The store goes by inserts of children of entry n alone.
+pub data Inserts {F I : Type 0} (rules : F → Rules I) (n : ℕ) (s : State F I) : State F I → Type 0 where
+  nothing : Inserts rules n s s
+  one_more : (t u : State F I) (child : ℕ) (p : Placed) → Inserts rules n s t → Next (rules t.rules) t (Insert n child p) u → Inserts rules n s u
+
+-- A child x of entry n was placed: it is folded into a live entry that covers it, and nothing
+-- changes, or it is inserted.
+pub data Settled {F I : Type 0} (r : Rules I) (n child : ℕ) (x : I) (s : State F I) : Placed → State F I → Type 0 where
+  folded : (into : ℕ) → LiveCover r x into s.core.entries → Settled r n child x s (Folded into) s
+  inserted : (p : Placed) (t : State F I) → p ≡ place_of r x s.core → Next r s (Insert n child p) t
+      → t.core ≡ placed r (length s.history) x (Child n child) p s.core → Settled r n child x s p t
+
+-- The events up to the start led to a state from which the children of entry n, placed so by one
+-- event, lead to the state now, but for the ticks. Entry n is taken.
+pub record Closing {F I : Type 0} (r : Rules I) (s : State F I) (start n : ℕ) (places : List Placed) : Type 0 where
+  pub before : Core I
+  pub after : After r s.roots s.budget (take start s.history) before
+  pub start_is : length (take start s.history) ≡ start
+  pub children : List I
+  pub expanding : Expanding r n children before
+  pub settles : Settles r start n 0 children places before (clipped start s.core)
+  pub taken : TakenEntry n s.core.entries
+
+-- The store once entry n, which is e, is let go by one event in place of those since the start.
+abbrev pub closed : {F I : Type 0} → State F I → ℕ → ℕ → List Placed → Entry I → State F I
+closed s start n places e = record s {
+  history = take start s.history ++ Finish n places ∷ [];
+  core = record s.core {
+    entries = slice_set (map (clip_entry start) s.core.entries) n (record e { status = let_go (clip_status start e.status) });
+    finished = s.core.finished + 1;
+  };
+}
+
+-- Entry n is finished: one event places its children.
+pub record Finishes {F I : Type 0} (r : Rules I) (n : ℕ) (s t : State F I) : Type 0 where
+  pub places : List Placed
+  pub next : Next r s (Finish n places) t
+
+-- There is no room for some child.
+pub record NoRoomForOne {F I : Type 0} (r : Rules I) (s : State F I) (w : Expansion F I) : Type 0 where
+  pub child : ℕ
+  pub no_room : NoRoomFor r s w child

@@ -1,5 +1,5 @@
 -- The entries of a store, and what is kept beside them so that no call walks the retired ones.
-use Rattle.std.specs.Prelude.{◌≡◌, ℕ, ◌+◌, ◌<◌, ◌≤◌, ◌++◌, Bool, true, false, ◌&&◌, not, if◌then◌else◌, List, [], ◌∷◌, length, Option, None, Some, slice_get, slice_set}
+use Rattle.std.specs.Prelude.{◌≡◌, ℕ, ◌+◌, ◌<◌, ◌≤◌, ◌++◌, Bool, true, false, ◌&&◌, not, if◌then◌else◌, List, [], ◌∷◌, length, Option, None, Some, slice_get, slice_set, min}
 use Rattle.std.specs.List.{filter}
 use Rattle.fold_core.specs.declared.event.Origin.{Origin}
 use Rattle.fold_core.specs.declared.event.Status.{Status}
@@ -97,3 +97,13 @@ unfinished_at es n = passes (λ e. not (is_finished e.status)) (slice_get es n)
 pub record PointsForward {I : Type 0} (es : List (Entry I)) : Type 0 where
   pub later : (n : ℕ) (e : Entry I) (to tick : ℕ) (taken : Bool) → Stands es n e → e.status ≡ Retired to tick taken → n < to
   pub within : (n : ℕ) (e : Entry I) (to tick : ℕ) (taken : Bool) → Stands es n e → e.status ≡ Retired to tick taken → to < length es
+
+-- The entry with its tick brought down to the bound.
+abbrev pub clip_status : ℕ → Status → Status
+clip_status bound Waiting = Waiting
+clip_status bound Taken = Taken
+clip_status bound Finished = Finished
+clip_status bound (Retired to tick taken) = Retired to (min tick bound) taken
+
+abbrev pub clip_entry : {I : Type 0} → ℕ → Entry I → Entry I
+clip_entry bound e = record e { status = clip_status bound e.status }

@@ -1,4 +1,8 @@
 use fold_core::Large;
+use npa_list::List;
+
+/// Numbers of entries.
+pub type Places = List<u32>;
 
 /// What `take` answers.
 #[derive(Debug, Clone, Copy, PartialEq, Eq)]

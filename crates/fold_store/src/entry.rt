@@ -1,7 +1,7 @@
 ghost use Rattle.std.specs.Prelude.{◌≡◌};
 ghost use Rattle.fold_core.specs.declared.event.Status.TheVariants.{Waiting, Taken};
 ghost use Rattle.fold_core.specs.Machine.{Entry, let_go, put_back_entry};
-ghost use Rattle.fold_store.specs.Table.{retired_by};
+ghost use Rattle.fold_store.specs.Table.{retired_by, clip_entry};
 
 use fold_core::{Origin, Status};
 use std::marker::Model;
@@ -130,5 +130,18 @@ impl<I> Kept<I> {
                 taken: false,
             },
         };
+    }
+
+    /// Its tick is brought down to the bound.
+    pub(crate) fn clip(&mut self, bound: u64)
+        ensures { self.new ≡ clip_entry bound self.old }
+    {
+        if let Status::Retired { to, tick, taken } = self.status {
+            self.status = Status::Retired {
+                to,
+                tick: tick.min(bound),
+                taken,
+            };
+        }
     }
 }

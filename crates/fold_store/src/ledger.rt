@@ -1,11 +1,11 @@
-ghost use Rattle.std.specs.Prelude.{◌≡◌, ◌≢◌, ◌<◌, ◌≤◌, ◌+◌, ◌↔◌, ℕ, [], ◌∷◌, ◌++◌, length, None, Some, IsTrue, IsSome, IfOk, OnOk, OnErr};
+ghost use Rattle.std.specs.Prelude.{◌≡◌, ◌≢◌, ◌<◌, ◌≤◌, ◌+◌, ◌↔◌, ℕ, [], ◌∷◌, ◌++◌, length, None, Some, IsTrue, IsSome, IfOk, IfSome, OnOk, OnErr};
 ghost use Rattle.std.specs.Option.{option_copied};
 ghost use Rattle.std.specs.Result.{IsErrOf};
 ghost use Rattle.fold_core.specs.declared.event.Event.TheVariants.{Insert, Halt, Reset};
-ghost use Rattle.fold_core.specs.Machine.{Entry, Core, Stands, LiveCover, Overflowing, empty, first_found, kept, Step, After};
+ghost use Rattle.fold_core.specs.Machine.{Entry, Core, Stands, LiveCover, Overflowing, empty, first_found, kept, placed, place_of, Step, After};
 ghost use Rattle.fold_core.specs.Facts.{Leads};
 ghost use Rattle.fold_store.specs.Table.{most_entries};
-ghost use Rattle.fold_store.specs.Store.{State, Next, event_of, MayPlace, NoRoom, Takes, item_at, origin_at, IsFor, NoRoomFor, Stands_so};
+ghost use Rattle.fold_store.specs.Store.{State, Next, event_of, MayPlace, NoRoom, Takes, item_at, origin_at, IsFor, NoRoomFor, NoRoomForOne, Stands_so, ChildOf, Settled, Closing, closed, Finishes, Inserts};
 
 use crate::answer::{Taken, Verdict};
 use crate::error::{InsertFail, StoreFail};
@@ -13,7 +13,8 @@ use crate::journal::Journal;
 use crate::table;
 use crate::table::Table;
 use crate::work::Work;
-use fold_core::{Event, Folding, Large, NoMemory, Origin, Placed};
+use crate::answer::Places;
+use fold_core::{Event, Folding, Large, NoMemory, Origin, Placed, PlacedList};
 use npa_list::List;
 use std::alloc::Global;
 use std::marker::Model;
@@ -202,6 +203,8 @@ impl<F: Folding> Ledger<F> {
     ) -> Result<Placed, StoreFail>
         requires { MayPlace (F.rules self.old.rules) self.old origin item.now }
         ensures ok { IfOk result (λ p. Next (F.rules self.old.rules) self.old (event_of origin p) self.new) }
+        ensures placed { IfOk result (λ p. (p ≡ place_of (F.rules self.old.rules) item.now self.old.core)
+          × (self.new.core ≡ placed (F.rules self.old.rules) (length self.old.history) item.now origin p self.old.core)) }
         ensures full { IsErrOf result StoreFail.Full → NoRoom (F.rules self.old.rules) item.now self.old.core }
         ensures err { OnErr result (self.new ≡ self.old) }
     {
@@ -254,6 +257,102 @@ impl<F: Folding> Ledger<F> {
         let origin = Origin::Child { parent: id, child };
         let placed = self.place(alloc, work.child(child), origin)?;
         Ok(placed)
+    }
+
+    /// The live entry that the hint leads to, where it covers the item.
+    fn hinted(
+        &self,
+        alloc: Global,
+        item: &F::Item,
+        hint: Option<&u32>,
+    ) -> Result<Option<u32>, NoMemory>
+        ensures { IfOk result (λ o. IfSome o (λ n. LiveCover (F.rules self.now.rules) item.now n self.now.core.entries)) }
+    {
+        let Some(hint) = hint else {
+            return Ok(None);
+        };
+        if *hint >= self.table.len() {
+            return Ok(None);
+        }
+        let end = self.follow(*hint);
+        let Some(kept) = self.table.get(end) else {
+            return Ok(None);
+        };
+        if self.rules.covers(alloc, kept.item(), item)? {
+            Ok(Some(end))
+        } else {
+            Ok(None)
+        }
+    }
+
+    /// Places a child of a taken entry: where its hint is right nothing changes, else it is
+    /// inserted.
+    fn settle(
+        &mut self,
+        alloc: Global,
+        item: &F::Item,
+        parent: u32,
+        child: u64,
+        hint: Option<&u32>,
+    ) -> Result<Placed, StoreFail>
+        requires { ChildOf (F.rules self.old.rules) self.old.core parent child item.now }
+        ensures ok { IfOk result (λ p. Settled (F.rules self.old.rules) parent child item.now self.old p self.new) }
+        ensures full { IsErrOf result StoreFail.Full → NoRoom (F.rules self.old.rules) item.now self.old.core }
+        ensures err { OnErr result (self.new ≡ self.old) }
+    {
+        if let Some(into) = self.hinted(alloc, item, hint)? {
+            return Ok(Placed::Folded(into));
+        }
+        self.place(alloc, item, Origin::Child { parent, child })
+    }
+
+    /// How many events there are.
+    fn events(&self) -> usize
+        ensures number { result ≡ length self.now.history }
+        ensures after { After (F.rules self.now.rules) self.now.roots self.now.budget self.now.history self.now.core }
+    {
+        self.journal.len()
+    }
+
+    /// Lets the entry go by one event, which stands in place of those since the start.
+    fn close(&mut self, id: u32, start: usize, places: PlacedList)
+        requires { Closing (F.rules self.old.rules) self.old start id places }
+        ensures { (e : Entry F.Item) → Stands self.old.core.entries id e → self.new ≡ closed self.old start id places e }
+    {
+        self.journal.truncate(start);
+        self.table.clip(start as u64);
+        self.table.let_go(id);
+        self.finished += 1;
+        self.journal.note(Event::Finish { entry: id, places });
+    }
+
+    /// Finishes a taken entry, by one event that places its children: where the hint of a child
+    /// is right it is folded, else it is inserted.
+    pub(crate) fn finish(
+        &mut self,
+        alloc: Global,
+        id: u32,
+        work: &Work<'_, F>,
+        hints: &Places,
+    ) -> Result<(), InsertFail>
+        ensures ok { OnOk result (Finishes (F.rules self.old.rules) id self.old self.new) }
+        ensures stranger { IsErrOf result InsertFail.Stranger ↔ (IsFor self.old id work.now → ⊥) }
+        ensures full { IsErrOf result InsertFail.Full → NoRoomForOne (F.rules self.old.rules) self.new work.now }
+        ensures kept { OnErr result (Inserts F.rules id self.old self.new) }
+        ensures same { IsErrOf result InsertFail.Stranger → self.new ≡ self.old }
+    {
+        if !self.is_for(id, work) {
+            return Err(InsertFail::Stranger);
+        }
+        let start = self.events();
+        let mut places = List::new(alloc);
+        for child in 0..work.children() {
+            let hint = hints.get(child as usize);
+            let placed = self.settle(alloc, work.child(child), id, child, hint)?;
+            places.push(placed)?;
+        }
+        self.close(id, start, places);
+        Ok(())
     }
 
     /// Halts the search, since the expansion of the entry is large as `why` says. Where it is

@@ -10,6 +10,6 @@ mod ledger;
 mod table;
 mod work;
 
-pub use answer::{Taken, Verdict};
+pub use answer::{Places, Taken, Verdict};
 pub use error::{InsertFail, StoreFail};
 pub use work::Work;

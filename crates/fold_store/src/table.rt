@@ -3,7 +3,7 @@ ghost use Rattle.std.specs.Option.{option_copied};
 ghost use Rattle.std.specs.List.{filter};
 ghost use Rattle.fold_core.specs.declared.event.Status.TheVariants.{Waiting, Taken};
 ghost use Rattle.fold_core.specs.Machine.{Entry, Stands, is_waiting, taken_count, least_cover, least_waiting, overtaken, let_go, put_back_entry};
-ghost use Rattle.fold_store.specs.Table.{most_entries, live_numbers, covers_at, covered_at, first_passing, retire_option, retire_each, NoneWaits, TakenEntry, SplitsLive, with_kept, unfinished_at, AllFinished, PointsForward};
+ghost use Rattle.fold_store.specs.Table.{most_entries, live_numbers, covers_at, covered_at, first_passing, retire_option, retire_each, NoneWaits, TakenEntry, SplitsLive, with_kept, unfinished_at, AllFinished, PointsForward, clip_entry};
 ghost use Rattle.fold_core.specs.Facts.{Leads};
 
 use crate::entry::Kept;
@@ -224,6 +224,23 @@ fn put_back_all<I>(entries: &mut Vec<Kept<I>>)
     }
 }
 
+/// Brings the tick of entry `at` down to the bound.
+fn clip_at<I>(entries: &mut Vec<Kept<I>>, at: usize, bound: u64)
+    requires { at < length entries.old.items }
+    ensures { (e : Entry I) → Stands entries.old.items at e → entries.new.items ≡ slice_set entries.old.items at (clip_entry bound e) }
+{
+    entries[at].clip(bound);
+}
+
+/// Brings each tick down to the bound.
+fn clip_all<I>(entries: &mut Vec<Kept<I>>, bound: u64)
+    ensures { entries.new.items ≡ map (clip_entry bound) entries.old.items }
+{
+    for at in 0..entries.len() {
+        clip_at(entries, at, bound);
+    }
+}
+
 impl<I> Table<I> {
     /// No entry.
     pub(crate) fn new(alloc: Global) -> Table<I>
@@ -319,6 +336,13 @@ impl<I> Table<I> {
     {
         let_go_at(&mut self.entries, number as usize);
         self.taken -= 1;
+    }
+
+    /// Brings each tick down to the bound.
+    pub(crate) fn clip(&mut self, bound: u64)
+        ensures { self.new ≡ map (clip_entry bound) self.old }
+    {
+        clip_all(&mut self.entries, bound);
     }
 
     /// What is taken waits again, or isn't taken any more where it is retired.

@@ -43,7 +43,8 @@ impl<'a, F: Folding> Work<'a, F> {
 
     /// How many children the item has.
     pub fn children(&self) -> u64
-        ensures { result ≡ length self.now.children }
+        ensures number { result ≡ length self.now.children }
+        ensures expands { (F.rules self.now.rules).expansion self.now.item ≡ Ok self.now.children }
     {
         self.children.len() as u64
     }
