@@ -4,3 +4,4 @@ pub mod Walks
 pub mod Events
 pub mod Clipping
 pub mod Finishing
+pub mod Opening

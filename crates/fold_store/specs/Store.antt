@@ -93,12 +93,9 @@ Takes r s Nothing t = (t ≡ s) × GoesOn s.core × (least_waiting s.core.entrie
 Takes r s Spent t = (t ≡ s) × GoesOn s.core × IsSome (least_waiting s.core.entries) × (taken_count s.core.entries + s.core.finished ≡ s.budget)
 Takes r s Stopped t = (t ≡ s) × (IsSome s.core.found ⊎ IsSome s.core.halted)
 
--- The item of entry n, if there is such an entry, and where it comes from.
+-- The item of entry n, if there is such an entry.
 abbrev pub item_at : {I : Type 0} → List (Entry I) → ℕ → Option I
 item_at es n = option_map (λ e. e.item) (slice_get es n)
-
-abbrev pub origin_at : {I : Type 0} → List (Entry I) → ℕ → Option Origin
-origin_at es n = option_map (λ e. e.origin) (slice_get es n)
 
 -- The work is that of entry n: the entry is taken, its item is the work's, and the rules are.
 pub record IsFor {F I : Type 0} (s : State F I) (n : ℕ) (w : Expansion F I) : Type 0 where
@@ -173,3 +170,44 @@ pub record Finishes {F I : Type 0} (r : Rules I) (n : ℕ) (s t : State F I) : T
 pub record NoRoomForOne {F I : Type 0} (r : Rules I) (s : State F I) (w : Expansion F I) : Type 0 where
   pub child : ℕ
   pub no_room : NoRoomFor r s w child
+
+-- The events that placed the roots from this number on, one after the other.
+abbrev pub root_events : ℕ → List Placed → List Event
+root_events n [] = []
+root_events n (p ∷ ps) = Root n p ∷ root_events (n + 1) ps
+
+-- The history has one event for each of so many roots, in order, and no other.
+pub record RootsAlone (many : ℕ) (history : List Event) : Type 0 where
+  pub places : List Placed
+  pub number : length places ≡ many
+  pub events : history ≡ root_events 0 places
+
+-- The history begins with one event for each root, in order.
+pub record Opens {I : Type 0} (roots : List I) (history : List Event) : Type 0 where
+  pub begins : List Event
+  pub rest : List Event
+  pub alone : RootsAlone (length roots) begins
+  pub is : history ≡ begins ++ rest
+
+-- The root of this number was placed.
+pub record PlacesRoot {F I : Type 0} (r : Rules I) (number : ℕ) (s t : State F I) : Type 0 where
+  pub placed : Placed
+  pub next : Next r s (Root number placed) t
+
+-- With these roots and this budget a root is met for which there is no room.
+pub record OpensFull {I : Type 0} (r : Rules I) (roots : List I) (budget : ℕ) : Type 0 where
+  pub number : ℕ
+  pub item : I
+  pub stands : Stands roots number item
+  pub history : List Event
+  pub core : Core I
+  pub alone : RootsAlone number history
+  pub after : After r roots budget history core
+  pub no_room : NoRoom r item core
+
+-- A store with these rules, roots and budget whose roots are placed, and no more.
+pub record Opened {F I : Type 0} (rules : F) (roots : List I) (budget : ℕ) (s : State F I) : Type 0 where
+  pub rules_are : s.rules ≡ rules
+  pub roots_are : s.roots ≡ roots
+  pub budget_is : s.budget ≡ budget
+  pub alone : RootsAlone (length roots) s.history

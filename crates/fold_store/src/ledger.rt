@@ -5,7 +5,7 @@ ghost use Rattle.fold_core.specs.declared.event.Event.TheVariants.{Insert, Halt,
 ghost use Rattle.fold_core.specs.Machine.{Entry, Core, Stands, LiveCover, Overflowing, empty, first_found, kept, placed, place_of, Step, After};
 ghost use Rattle.fold_core.specs.Facts.{Leads};
 ghost use Rattle.fold_store.specs.Table.{most_entries};
-ghost use Rattle.fold_store.specs.Store.{State, Next, event_of, MayPlace, NoRoom, Takes, item_at, origin_at, IsFor, NoRoomFor, NoRoomForOne, Stands_so, ChildOf, Settled, Closing, closed, Finishes, Inserts};
+ghost use Rattle.fold_store.specs.Store.{State, Next, event_of, MayPlace, NoRoom, Takes, item_at, IsFor, NoRoomFor, NoRoomForOne, Stands_so, ChildOf, Settled, Closing, closed, Finishes, Inserts, RootsAlone, PlacesRoot, OpensFull};
 
 use crate::answer::{Taken, Verdict};
 use crate::error::{InsertFail, StoreFail};
@@ -161,6 +161,25 @@ impl<F: Folding> Ledger<F> {
     {
         self.journal.promise(1)?;
         self.journal.note(event);
+        Ok(())
+    }
+
+    /// How many roots there are.
+    pub(crate) fn roots(&self) -> usize
+        ensures { result ≡ length self.now.roots }
+    {
+        self.roots.len()
+    }
+
+    /// Places the next root.
+    pub(crate) fn place_root(&mut self, alloc: Global, number: u32) -> Result<(), StoreFail>
+        requires within { number < length self.old.roots }
+        requires alone { RootsAlone number self.old.history }
+        ensures ok { OnOk result (PlacesRoot (F.rules self.old.rules) number self.old self.new) }
+        ensures full { IsErrOf result StoreFail.Full → OpensFull (F.rules self.old.rules) self.old.roots self.old.budget }
+    {
+        let item = F::copy_item(alloc, &self.roots.as_slice()[number as usize])?;
+        self.place(alloc, &item, Origin::Root(number))?;
         Ok(())
     }
 
@@ -409,12 +428,13 @@ impl<F: Folding> Ledger<F> {
     }
 
     /// Where the item of an entry comes from.
-    pub(crate) fn origin(&self, id: u32) -> Option<Origin>
-        ensures { result ≡ origin_at self.now.core.entries id }
+    pub(crate) fn origin(&self, id: u32) -> Origin
+        requires { id < length self.now.core.entries }
+        ensures { (e : Entry F.Item) → Stands self.now.core.entries id e → result ≡ e.origin }
     {
         match self.table.get(id) {
-            Some(kept) => Some(kept.origin()),
-            None => None,
+            Some(kept) => kept.origin(),
+            None => unreachable!(),
         }
     }
 

@@ -7,9 +7,11 @@ mod entry;
 mod error;
 mod journal;
 mod ledger;
+mod store;
 mod table;
 mod work;
 
 pub use answer::{Places, Taken, Verdict};
 pub use error::{InsertFail, StoreFail};
+pub use store::Store;
 pub use work::Work;
