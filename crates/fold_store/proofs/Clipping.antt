@@ -1,5 +1,5 @@
 -- Ticks that are brought down to a bound: nothing else changes.
-use Rattle.std.proofs.Common.{◌≡◌, ℕ, zero, suc, ◌+◌, ◌<◌, ◌≤◌, Bool, true, false, ◌&&◌, cond, min, List, [], ◌∷◌, ◌++◌, length, map, set, None, Some, refl, ap, sym, ◌∙◌, subst, arith, length-append, length-set}
+use Rattle.std.proofs.Common.{◌≡◌, ℕ, zero, suc, ◌+◌, ◌<◌, ◌≤◌, Bool, true, false, ◌&&◌, cond, min, List, [], ◌∷◌, ◌++◌, length, map, set, take, None, Some, refl, ap, sym, ◌∙◌, subst, arith, length-append, length-set}
 use Rattle.std.proofs.lemmas.List.{length-map}
 use Rattle.std.proofs.lemmas.List.Sums.{sum_by-cons}
 use Rattle.std.specs.List.{position_from}
@@ -12,7 +12,7 @@ use Rattle.fold_core.specs.Rules.{Rules}
 use Rattle.fold_core.specs.Machine.{Entry, Core, Stands, is_live, is_waiting, is_taken, LiveCover, least_cover, overtaken, first_found, kept, placed, Accepts}
 use Rattle.fold_core.proofs.Places.{stands_map, stands_unmap}
 use Rattle.fold_core.proofs.Counting.{taken_map}
-use Rattle.fold_store.specs.Table.{numbers_where, live_numbers, NoneWaits, Indexed, clip_status, clip_entry}
+use Rattle.fold_store.specs.Table.{numbers_where, live_numbers, NoneWaits, Indexed, clip_status, clip_entry, TicksWithin}
 use Rattle.fold_store.specs.Store.{owed_by, owed, clipped}
 use Rattle.fold_store.proofs.Numbers.{numbers_map}
 
@@ -53,8 +53,10 @@ pub indexed_clip : {I : Type 0} (b : ℕ) (es : List (Entry I)) (live : List ℕ
 indexed_clip b es live first taken i = record {
   few = (let n = length-map es (clip_entry b) in let h = i.few in omega arith);
   live_is = i.live_is ∙ sym (numbers_map (λ w. is_live w.status) (λ w. is_live w.status) (clip_entry b) (λ e. clip_live b e.status) 0 es);
-  none_waits = record { none = λ m d h t.
-      (let u = stands_unmap (clip_entry b) es m d t in ap (λ v. is_waiting v.status) u.2 ∙ clip_waiting b u.0.status ∙ i.none_waits.none m u.0 h u.1) };
+  none_waits = record {
+    none = λ m d h t.
+        (let u = stands_unmap (clip_entry b) es m d t in ap (λ v. is_waiting v.status) u.2 ∙ clip_waiting b u.0.status ∙ i.none_waits.none m u.0 h u.1);
+  };
   first_within = (let n = length-map es (clip_entry b) in let h = i.first_within in omega arith);
   taken_is = (let t = taken_map (clip_entry b) (λ e. clip_taken b e.status) es in let h = i.taken_is in omega arith);
 }
@@ -123,3 +125,13 @@ clip_none b [] below = refl
 clip_none b (e ∷ es) below =
     let head : clip_entry b e ≡ e = ap (λ s. record e { status = s }) (clip_status_same b e.status (λ to tick taken q. below 0 e to tick taken (record { is = refl }) q)) in
     ap (λ w. w ∷ map (clip_entry b) es) head ∙ ap (λ ws. e ∷ ws) (clip_none b es (λ n d to tick taken s q. below (suc n) d to tick taken (record { is = s.is }) q))
+
+-- Where there is nothing past the start, nothing is brought down.
+pub down_to : {I : Type 0} (start many : ℕ) (es : List (Entry I)) → TicksWithin many es → many ≤ start → es ≡ map (clip_entry start) es
+down_to start many es t h = sym (clip_none start es (λ n e to tick taken s q. (let w = t.within n e to tick taken s q in omega arith)))
+
+pub take_past : {X : Type 0} (xs : List X) (k : ℕ) → length xs ≤ k → xs ≡ take k xs
+take_past [] zero h = refl
+take_past [] (suc k) h = refl
+take_past (x ∷ xs) zero h = absurd (omega arith)
+take_past (x ∷ xs) (suc k) h = ap (λ w. x ∷ w) (take_past xs k (omega arith))

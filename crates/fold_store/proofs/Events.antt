@@ -46,9 +46,9 @@ sound_same promised now s step is p q = sound_next now s step is (let h = s.room
 -- What is kept owes two events more, and what it retires owes none.
 owed_less : {I : Type 0} (r : Rules I) (x : I) (n tick : ℕ) (e : Entry I) → owed_by (overtaken r x n tick e).status ≤ owed_by e.status
 owed_less r x n tick e = elim (is_live e.status && r.covers x e.item) as (λ b. owed_by (cond b (record e { status = Retired n tick (is_taken e.status) }) e).status ≤ owed_by e.status) [
-    | true ↦ by e.status
-    | false ↦ omega arith
-  ]
+  | true ↦ by e.status
+  | false ↦ omega arith
+]
   where
     by : (s : Status) → cond (is_taken s) 1 0 ≤ owed_by s
     by Waiting = omega arith
@@ -211,9 +211,12 @@ pub spent_is : {F I : Type 0} (s t : State F I) (es : List (Entry I)) (n : ℕ) 
 spent_is s t es n here same found halted least all =
     let w : State _ _ = record s { core = record s.core { entries = es } } in
     let back : w ≡ t = ap (λ es. record s { core = record s.core { entries = es } }) same ∙ here in
-    let some : IsSome (least_waiting s.core.entries) = subst IsSome (sym least) refl in
-    (back, subst (λ v. GoesOn v.core) here (record { not_found = found; not_halted = halted }), subst (λ v. IsSome (least_waiting v.core.entries)) here some,
-      subst (λ v. taken_count v.core.entries + v.core.finished ≡ v.budget) here all)
+    let some : IsSome (least_waiting s.core.entries) = subst IsSome (sym least) refl in (
+      back,
+      subst (λ v. GoesOn v.core) here (record { not_found = found; not_halted = halted }),
+      subst (λ v. IsSome (least_waiting v.core.entries)) here some,
+      subst (λ v. taken_count v.core.entries + v.core.finished ≡ v.budget) here all,
+    )
 
 -- The search is halted.
 pub sound_halt : {I : Type 0} {r : Rules I} {roots : List I} {budget : ℕ} {history events : List Event} {c : Core I} {n : ℕ} {why : Large} {due : ℕ} (now : ℕ)

@@ -55,10 +55,12 @@ pub indexed_set : {I : Type 0} (es : List (Entry I)) (live : List ℕ) (first ta
 indexed_set es live first taken now k e f i s lives waits counted = record {
   few = (let n = length-set es k f in let h = i.few in omega arith);
   live_is = i.live_is ∙ sym (numbers_set (λ w. is_live w.status) 0 es k e f s lives);
-  none_waits = record { none = λ m d h t. elim (stands_unset es k f m d t) [
-    | inl a ↦ i.none_waits.none m d h a.1
-    | inr b ↦ ap (λ w. is_waiting w.status) b.1 ∙ waits
-  ] };
+  none_waits = record {
+    none = λ m d h t. elim (stands_unset es k f m d t) [
+      | inl a ↦ i.none_waits.none m d h a.1
+      | inr b ↦ ap (λ w. is_waiting w.status) b.1 ∙ waits
+    ];
+  };
   first_within = (let n = length-set es k f in let h = i.first_within in omega arith);
   taken_is = (let t = taken_set es k e f s in let h = i.taken_is in omega arith);
 }
@@ -130,6 +132,7 @@ indexed_put_back es live first taken i = record {
     lives Taken = refl
     lives Finished = refl
     lives (Retired to tick taken) = refl
+
     free : (s : Status) → is_taken (put_back s) ≡ false
     free Waiting = refl
     free Taken = refl
@@ -180,10 +183,12 @@ indexed_kept es live covered others ns first taken tick x origin i room s is =
       few = omega arith;
       live_is = is ∙ ap (λ ms. ms ++ length es ∷ []) (s.others_is ∙ sym (numbers_map (λ e. is_live e.status) (λ e. is_live e.status && not (s.test e)) g (goes_lives s.test (length es) tick) 0 es))
           ∙ ap (λ k. live_numbers (map g es) ++ k ∷ []) (sym q) ∙ sym (numbers_append (λ e. is_live e.status) 0 (map g es) w refl);
-      none_waits = record { none = λ m d h t. elim (stands_append (map g es) w m d t) [
-        | inl a ↦ (let u = stands_unmap g es m d a in ap (λ v. is_waiting v.status) u.2 ∙ goes_waits s.test (length es) tick u.0 (i.none_waits.none m u.0 h u.1))
-        | inr b ↦ absurd (let m_is = b.0 in omega arith)
-      ] };
+      none_waits = record {
+        none = λ m d h t. elim (stands_append (map g es) w m d t) [
+          | inl a ↦ (let u = stands_unmap g es m d a in ap (λ v. is_waiting v.status) u.2 ∙ goes_waits s.test (length es) tick u.0 (i.none_waits.none m u.0 h u.1))
+          | inr b ↦ absurd (let m_is = b.0 in omega arith)
+        ];
+      };
       first_within = omega arith;
       taken_is = (let a = sum_by_push weight (map g es) w in let b = taken_map g (goes_taken s.test (length es) tick) es in let h = i.taken_is in omega arith);
     })

@@ -138,7 +138,7 @@ numbers_append p n (e ∷ es) w hit =
     let move : n + 1 + length es ≡ n + suc (length es) = omega arith in
     let rest = numbers_append p (n + 1) es w hit ∙ ap (λ k. numbers_where p (n + 1) es ++ k ∷ []) move in
     elim (p e) as (λ b. cond b (n ∷ numbers_where p (n + 1) (es ++ w ∷ [])) (numbers_where p (n + 1) (es ++ w ∷ []))
-      ≡ cond b (n ∷ numbers_where p (n + 1) es) (numbers_where p (n + 1) es) ++ (n + suc (length es)) ∷ []) [
+    ≡ cond b (n ∷ numbers_where p (n + 1) es) (numbers_where p (n + 1) es) ++ (n + suc (length es)) ∷ []) [
       | true ↦ ap (λ ns. n ∷ ns) rest
       | false ↦ rest
     ]

@@ -31,9 +31,11 @@ both_true false b p = absurd (cc)
 
 -- No live entry is unfinished exactly where each is finished.
 finished_all : {I : Type 0} (es : List (Entry I)) → position_from (λ e. is_live e.status && not (is_finished e.status)) 0 es ≡ None → AllFinished es
-finished_all es none = record { finished = λ n e s live.
-    (let fails = position_none (λ w. is_live w.status && not (is_finished w.status)) 0 es none n e s in
-    finished_yes e.status (not_false (is_finished e.status) (and_right (is_live e.status) (not (is_finished e.status)) live fails))) }
+finished_all es none = record {
+  finished = λ n e s live.
+      (let fails = position_none (λ w. is_live w.status && not (is_finished w.status)) 0 es none n e s in
+      finished_yes e.status (not_false (is_finished e.status) (and_right (is_live e.status) (not (is_finished e.status)) live fails)));
+}
 
 finished_none : {I : Type 0} (es : List (Entry I)) → AllFinished es → position_from (λ e. is_live e.status && not (is_finished e.status)) 0 es ≡ None
 finished_none es all = by (position_from (λ e. is_live e.status && not (is_finished e.status)) 0 es) refl

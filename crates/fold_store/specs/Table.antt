@@ -107,3 +107,7 @@ clip_status bound (Retired to tick taken) = Retired to (min tick bound) taken
 
 abbrev pub clip_entry : {I : Type 0} → ℕ → Entry I → Entry I
 clip_entry bound e = record e { status = clip_status bound e.status }
+
+-- No entry was retired by an event past this tick.
+pub record TicksWithin {I : Type 0} (bound : ℕ) (es : List (Entry I)) : Type 0 where
+  pub within : (n : ℕ) (e : Entry I) (to tick : ℕ) (taken : Bool) → Stands es n e → e.status ≡ Retired to tick taken → tick ≤ bound

@@ -1,19 +1,18 @@
-ghost use Rattle.std.specs.Prelude.{◌≡◌, ◌≢◌, ◌<◌, ◌≤◌, ◌+◌, ◌↔◌, ℕ, [], ◌∷◌, ◌++◌, length, None, Some, IsTrue, IsSome, IfOk, IfSome, OnOk, OnErr};
+ghost use Rattle.std.specs.Prelude.{◌≡◌, ◌≢◌, ◌<◌, ◌≤◌, ◌+◌, ◌↔◌, ℕ, [], ◌∷◌, ◌++◌, length, map, take, None, Some, IsTrue, IsSome, IfOk, IfSome, OnOk, OnErr};
 ghost use Rattle.std.specs.Option.{option_copied};
 ghost use Rattle.std.specs.Result.{IsErrOf};
 ghost use Rattle.fold_core.specs.declared.event.Event.TheVariants.{Insert, Halt, Reset};
 ghost use Rattle.fold_core.specs.Machine.{Entry, Core, Stands, LiveCover, Overflowing, empty, first_found, kept, placed, place_of, Step, After};
 ghost use Rattle.fold_core.specs.Facts.{Leads};
-ghost use Rattle.fold_store.specs.Table.{most_entries};
+ghost use Rattle.fold_store.specs.Table.{most_entries, clip_entry, TicksWithin};
 ghost use Rattle.fold_store.specs.Store.{State, Next, event_of, MayPlace, NoRoom, Takes, item_at, IsFor, NoRoomFor, NoRoomForOne, Stands_so, ChildOf, Settled, Closing, closed, Finishes, Inserts, RootsAlone, PlacesRoot, OpensFull};
 
-use crate::answer::{Taken, Verdict};
+use crate::answer::{Places, Taken, Verdict};
 use crate::error::{InsertFail, StoreFail};
 use crate::journal::Journal;
 use crate::table;
 use crate::table::Table;
 use crate::work::Work;
-use crate::answer::Places;
 use fold_core::{Event, Folding, Large, NoMemory, Origin, Placed, PlacedList};
 use npa_list::List;
 use std::alloc::Global;
@@ -50,7 +49,7 @@ impl<F: Folding> Model for Ledger<F> {
     } };
 
     ghost invariant = { λ l. Sound (F.rules l.rules) l.roots l.budget l.journal.events
-      (record { entries = l.table; found = l.found; halted = l.halted; finished = l.finished }) l.journal.due };
+        (record { entries = l.table; found = l.found; halted = l.halted; finished = l.finished }) l.journal.due };
 }
 
 /// The event by which an item of this origin is placed.
@@ -78,6 +77,20 @@ fn first_found(found: Option<u32>, initial: bool, number: u32) -> Option<u32>
     }
 }
 
+/// Forgets the events since the start, and brings the ticks down to it. Where there are none, no
+/// entry is walked.
+fn bring_down<I>(table: &mut Table<I>, journal: &mut Journal, start: usize)
+    requires { TicksWithin (length journal.old.events) table.old }
+    ensures table { table.new ≡ map (clip_entry start) table.old }
+    ensures events { journal.new.events ≡ take start journal.old.events }
+    ensures due { journal.new.due ≡ journal.old.due }
+{
+    if start < journal.len() {
+        journal.truncate(start);
+        table.clip(start as u64);
+    }
+}
+
 impl<F: Folding> Ledger<F> {
     /// The beginning: no event yet.
     pub(crate) fn new(
@@ -86,7 +99,8 @@ impl<F: Folding> Ledger<F> {
         roots: List<F::Item>,
         budget: u32,
     ) -> Result<Ledger<F>, NoMemory>
-        where F: Drop,
+    where
+        F: Drop,
         ensures { IfOk result (λ l. l ≡ record { rules = rules; roots = roots; budget = budget; history = []; core = empty }) }
     {
         let mut journal = Journal::new(alloc);
@@ -193,7 +207,7 @@ impl<F: Folding> Ledger<F> {
     ) -> Result<(), NoMemory>
         requires room { length self.old.core.entries < most_entries }
         requires step { Step (F.rules self.old.rules) self.old.roots self.old.budget self.old.history self.old.core event
-          (kept (F.rules self.old.rules) (length self.old.history) item.now origin self.old.core) }
+            (kept (F.rules self.old.rules) (length self.old.history) item.now origin self.old.core) }
         ensures ok { OnOk result (Next (F.rules self.old.rules) self.old event self.new) }
         ensures err { OnErr result (self.new ≡ self.old) }
     {
@@ -223,7 +237,7 @@ impl<F: Folding> Ledger<F> {
         requires { MayPlace (F.rules self.old.rules) self.old origin item.now }
         ensures ok { IfOk result (λ p. Next (F.rules self.old.rules) self.old (event_of origin p) self.new) }
         ensures placed { IfOk result (λ p. (p ≡ place_of (F.rules self.old.rules) item.now self.old.core)
-          × (self.new.core ≡ placed (F.rules self.old.rules) (length self.old.history) item.now origin p self.old.core)) }
+            × (self.new.core ≡ placed (F.rules self.old.rules) (length self.old.history) item.now origin p self.old.core)) }
         ensures full { IsErrOf result StoreFail.Full → NoRoom (F.rules self.old.rules) item.now self.old.core }
         ensures err { OnErr result (self.new ≡ self.old) }
     {
@@ -338,8 +352,7 @@ impl<F: Folding> Ledger<F> {
         requires { Closing (F.rules self.old.rules) self.old start id places }
         ensures { (e : Entry F.Item) → Stands self.old.core.entries id e → self.new ≡ closed self.old start id places e }
     {
-        self.journal.truncate(start);
-        self.table.clip(start as u64);
+        bring_down(&mut self.table, &mut self.journal, start);
         self.table.let_go(id);
         self.finished += 1;
         self.journal.note(Event::Finish { entry: id, places });

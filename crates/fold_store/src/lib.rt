@@ -9,6 +9,8 @@ mod journal;
 mod ledger;
 mod store;
 mod table;
+#[cfg(test)]
+mod tests;
 mod work;
 
 pub use answer::{Places, Taken, Verdict};

@@ -43,7 +43,8 @@ impl<F: Folding> Store<F> {
         roots: List<F::Item>,
         budget: u32,
     ) -> Result<Store<F>, StoreFail>
-        where F: Drop,
+    where
+        F: Drop,
         requires { length roots < u32.MAX }
         ensures ok { IfOk result (Opened rules roots budget) }
         ensures full { IsErrOf result StoreFail.Full → OpensFull (F.rules rules) roots budget }

@@ -13,6 +13,11 @@ invariant_of-self g c =
 pub returns-clause-first : goal.returns-clause-first
 returns-clause-first g c = λ given.
     let free : c.self.inside.halted ≡ None = search rules in
-    let v : State _ _ = record { rules = c.self.inside.rules; roots = c.self.inside.roots; budget = c.self.inside.budget; history = c.self.inside.journal.events;
-      core = record { entries = c.self.inside.table; found = c.self.inside.found; halted = c.self.inside.halted; finished = c.self.inside.finished } } in
+    let v : State _ _ = record {
+      rules = c.self.inside.rules;
+      roots = c.self.inside.roots;
+      budget = c.self.inside.budget;
+      history = c.self.inside.journal.events;
+      core = record { entries = c.self.inside.table; found = c.self.inside.found; halted = c.self.inside.halted; finished = c.self.inside.finished };
+    } in
     next_halt g.F.Folding.rules v c.args.self.now c.args.id c.args.why c.note.new.self.events c.self.view_is free c.requires c.note.ensures.events

@@ -14,7 +14,12 @@ invariant_of-self-2 g c =
 
 pub returns-clause-ok : goal.returns-clause-ok
 returns-clause-ok g c =
-    let v : State _ _ = record { rules = c.self.inside.rules; roots = c.self.inside.roots; budget = c.self.inside.budget; history = c.self.inside.journal.events;
-      core = record { entries = c.self.inside.table; found = c.self.inside.found; halted = c.self.inside.halted; finished = c.self.inside.finished } } in
+    let v : State _ _ = record {
+      rules = c.self.inside.rules;
+      roots = c.self.inside.roots;
+      budget = c.self.inside.budget;
+      history = c.self.inside.journal.events;
+      core = record { entries = c.self.inside.table; found = c.self.inside.found; halted = c.self.inside.halted; finished = c.self.inside.finished };
+    } in
     let same = ap (λ (j : Written). j.events) c.in_ok-promise.ensures.ok in
     next_reset g.F.Folding.rules v c.args.self.now c.put_back.new.self c.note.new.self.events c.self.view_is c.put_back.ensures (c.note.ensures.events ∙ ap (λ h. h ++ Reset ∷ []) same)

@@ -10,8 +10,13 @@ overflow_sub-left g c = let b = in_budget c.self.invariant in omega arith
 
 pub returns-then-taken-left : goal.returns-then-taken-left
 returns-then-taken-left g c =
-    let v : State _ _ = record { rules = c.self.inside.rules; roots = c.self.inside.roots; budget = c.self.inside.budget; history = c.self.inside.journal.events;
-      core = record { entries = c.self.inside.table; found = c.self.inside.found; halted = c.self.inside.halted; finished = c.self.inside.finished } } in
+    let v : State _ _ = record {
+      rules = c.self.inside.rules;
+      roots = c.self.inside.roots;
+      budget = c.self.inside.budget;
+      history = c.self.inside.journal.events;
+      core = record { entries = c.self.inside.table; found = c.self.inside.found; halted = c.self.inside.halted; finished = c.self.inside.finished };
+    } in
     let found : c.self.inside.found ≡ None = search rules in
     let halted : c.self.inside.halted ≡ None = search rules in
     let least : least_waiting c.self.inside.table ≡ Some c.in-Some.number = search rules in
@@ -22,8 +27,13 @@ returns-then-taken-left g c =
 
 pub invariant_of-self-2 : goal.invariant_of-self-2
 invariant_of-self-2 g c =
-    let v : State _ _ = record { rules = c.self.inside.rules; roots = c.self.inside.roots; budget = c.self.inside.budget; history = c.self.inside.journal.events;
-      core = record { entries = c.self.inside.table; found = c.self.inside.found; halted = c.self.inside.halted; finished = c.self.inside.finished } } in
+    let v : State _ _ = record {
+      rules = c.self.inside.rules;
+      roots = c.self.inside.roots;
+      budget = c.self.inside.budget;
+      history = c.self.inside.journal.events;
+      core = record { entries = c.self.inside.table; found = c.self.inside.found; halted = c.self.inside.halted; finished = c.self.inside.finished };
+    } in
     let found : c.self.inside.found ≡ None = search rules in
     let halted : c.self.inside.halted ≡ None = search rules in
     let least : least_waiting c.self.inside.table ≡ Some c.in-Some.number = search rules in
@@ -35,8 +45,13 @@ invariant_of-self-2 g c =
 
 pub returns : goal.returns
 returns g c =
-    let v : State _ _ = record { rules = c.self.inside.rules; roots = c.self.inside.roots; budget = c.self.inside.budget; history = c.self.inside.journal.events;
-      core = record { entries = c.self.inside.table; found = c.self.inside.found; halted = c.self.inside.halted; finished = c.self.inside.finished } } in
+    let v : State _ _ = record {
+      rules = c.self.inside.rules;
+      roots = c.self.inside.roots;
+      budget = c.self.inside.budget;
+      history = c.self.inside.journal.events;
+      core = record { entries = c.self.inside.table; found = c.self.inside.found; halted = c.self.inside.halted; finished = c.self.inside.finished };
+    } in
     let found : c.self.inside.found ≡ None = search rules in
     let halted : c.self.inside.halted ≡ None = search rules in
     let least : least_waiting c.self.inside.table ≡ Some c.in-Some.number = search rules in

@@ -1,0 +1,203 @@
+ghost use Rattle.fold_store.specs.Ladder.{ladder, ladder_lawful};
+
+use crate::{InsertFail, Places, Store, Taken, Verdict, Work};
+use fold_core::{ExpandFail, Folding, Large, Measure, NoMemory, Numbers, Origin, Placed};
+use npa_list::List;
+use std::alloc::Global;
+use std::process::Abort;
+use std::test::Fail;
+
+/// Numbers that cover all below them; their children are those of `Numbers`.
+#[derive(Drop)]
+struct Ladder {
+    numbers: Numbers,
+}
+
+impl Folding for Ladder {
+    type Item = u64;
+
+    ghost rules = { λ l. ladder l.numbers };
+
+    fn copy(&self, _alloc: Global) -> Result<Ladder, NoMemory> {
+        Ok(Ladder {
+            numbers: self.numbers,
+        })
+    }
+
+    fn same(&self, other: &Ladder) -> bool {
+        self.numbers == other.numbers
+    }
+
+    fn copy_item(_alloc: Global, item: &u64) -> Result<u64, NoMemory> {
+        Ok(*item)
+    }
+
+    fn same_item(a: &u64, b: &u64) -> bool {
+        a == b
+    }
+
+    fn covers(&self, _alloc: Global, t: &u64, s: &u64) -> Result<bool, NoMemory> {
+        Ok(*s <= *t)
+    }
+
+    fn initial(&self, item: &u64) -> bool {
+        self.numbers.initial(item)
+    }
+
+    fn expand(&self, alloc: Global, item: &u64) -> Result<List<u64>, ExpandFail> {
+        self.numbers.expand(alloc, item)
+    }
+
+    ghost lawful = { λ l. ladder_lawful l.numbers };
+}
+
+/// Rules with no initial number and no limit.
+fn plain(top: u64) -> Numbers {
+    Numbers {
+        top,
+        goal: 1_000_000,
+        limit: 1_000_000,
+    }
+}
+
+fn list(alloc: Global, items: &[u64]) -> Result<List<u64>, NoMemory> {
+    Ok(List::from_slice(alloc, items)?)
+}
+
+fn check_live(
+    rt: &impl Abort,
+    alloc: Global,
+    store: &Store<Numbers>,
+    wanted: &[u32],
+) -> Result<(), NoMemory> {
+    assert_eq!(rt; store.live(alloc)?.as_slice(), wanted);
+    Ok(())
+}
+
+// Each of 99,999 children retires the one before it, and the first its taken parent. The store is
+// full then, and a child that is covered is folded still.
+#[test]
+fn a_ladder_fills_the_store(rt: HostRuntime) -> Result<(), Fail> {
+    let alloc = rt.alloc();
+    let rules = Ladder {
+        numbers: plain(100_000),
+    };
+    let mut store = Store::open(alloc, rules.copy(alloc)?, list(alloc, [0].as_slice())?, 1)?;
+    assert_eq!(rt; store.take(), Taken::Got(0));
+    let work = Work::make(alloc, &rules, 0)?;
+    let children = work.children();
+    assert_eq!(rt; children, 100_000);
+    for child in 0..99_999u64 {
+        let placed = store.insert(alloc, 0, &work, child)?;
+        assert_eq!(rt; placed, Placed::Kept(child as u32 + 1));
+    }
+    assert_eq!(rt; store.entries(), 100_000);
+    assert_eq!(rt; store.live(alloc)?.as_slice(), [99_999].as_slice());
+    let full = store.insert(alloc, 0, &work, 99_999);
+    assert!(rt; matches!(full, Err(InsertFail::Full)));
+    assert_eq!(rt; store.entries(), 100_000);
+    assert_eq!(rt; store.insert(alloc, 0, &work, 4)?, Placed::Folded(99_999));
+    let other = Work::make(alloc, &rules, 1)?;
+    assert_eq!(rt; other.children(), 1);
+    let stranger = store.insert(alloc, 0, &other, 0);
+    assert!(rt; matches!(stranger, Err(InsertFail::Stranger)));
+    Ok(())
+}
+
+// Five roots: the second retires the first, the fourth the second; the third and the fifth are
+// folded.
+#[test]
+fn roots_are_folded(rt: HostRuntime) -> Result<(), Fail> {
+    let alloc = rt.alloc();
+    let roots = list(alloc, [1, 2, 1, 3, 3].as_slice())?;
+    let mut store = Store::open(alloc, plain(5), roots, 1)?;
+    check_live(&rt, alloc, &store, [2].as_slice())?;
+    assert_eq!(rt; store.entries(), 3);
+    assert_eq!(rt; store.follow(0), 2);
+    assert_eq!(rt; store.follow(1), 2);
+    assert_eq!(rt; store.origin(1), Origin::Root(1));
+    assert_eq!(rt; store.origin(2), Origin::Root(3));
+    assert_eq!(rt; store.item(2).copied(), Some(3));
+    assert!(rt; store.item(3).is_none());
+    assert_eq!(rt; store.take(), Taken::Got(2));
+    assert_eq!(rt; store.take(), Taken::Nothing);
+    assert!(rt; store.rules().same(&plain(5)));
+    Ok(())
+}
+
+// A reset of one of two entries; then both are finished, the first by a hint.
+#[test]
+fn two_entries_are_finished(rt: HostRuntime) -> Result<(), Fail> {
+    let alloc = rt.alloc();
+    let rules = plain(1);
+    let mut store = Store::open(alloc, rules, list(alloc, [10, 0].as_slice())?, 3)?;
+    assert_eq!(rt; store.take(), Taken::Got(0));
+    store.reset()?;
+    check_live(&rt, alloc, &store, [0, 1].as_slice())?;
+    assert_eq!(rt; store.take(), Taken::Got(0));
+    assert_eq!(rt; store.take(), Taken::Got(1));
+    assert_eq!(rt; store.verdict(), Verdict::Running);
+    let ten = Work::make(alloc, &rules, 10)?;
+    let zero = Work::make(alloc, &rules, 0)?;
+    let none: Places = List::new(alloc);
+    let mut hints: Places = List::new(alloc);
+    hints.push(1)?;
+    assert!(rt;
+        matches!(
+            store.finish(alloc, 0, &zero, &none),
+            Err(InsertFail::Stranger)
+        )
+    );
+    store.finish(alloc, 0, &ten, &hints)?;
+    assert_eq!(rt; store.entries(), 2);
+    store.finish(alloc, 1, &zero, &none)?;
+    assert_eq!(rt; store.entries(), 3);
+    assert_eq!(rt; store.finished(), 2);
+    check_live(&rt, alloc, &store, [0, 2].as_slice())?;
+    assert_eq!(rt; store.take(), Taken::Got(2));
+    assert_eq!(rt; store.take(), Taken::Nothing);
+    let one = Work::make(alloc, &rules, 1)?;
+    store.finish(alloc, 2, &one, &none)?;
+    assert_eq!(rt; store.verdict(), Verdict::Done);
+    store.runs();
+    Ok(())
+}
+
+// The budget, what halts a search and what is found.
+#[test]
+fn searches_end(rt: HostRuntime) -> Result<(), Fail> {
+    let alloc = rt.alloc();
+    let mut store = Store::open(alloc, plain(1), list(alloc, [10, 0].as_slice())?, 1)?;
+    assert_eq!(rt; store.take(), Taken::Got(0));
+    assert_eq!(rt; store.take(), Taken::Spent);
+    let found = Numbers {
+        top: 1,
+        goal: 10,
+        limit: 100,
+    };
+    let mut store = Store::open(alloc, found, list(alloc, [0, 10].as_slice())?, 1)?;
+    assert_eq!(rt; store.take(), Taken::Stopped);
+    assert_eq!(rt; store.verdict(), Verdict::Found(1));
+    Ok(())
+}
+
+// An item that is past the limit halts the search.
+#[test]
+fn a_search_is_halted(rt: HostRuntime) -> Result<(), Fail> {
+    let alloc = rt.alloc();
+    let rules = Numbers {
+        top: 1,
+        goal: 100,
+        limit: 10,
+    };
+    let mut store = Store::open(alloc, rules, list(alloc, [20].as_slice())?, 1)?;
+    assert_eq!(rt; store.take(), Taken::Got(0));
+    let work = Work::make(alloc, &rules, 20);
+    let why = Large {
+        rule: 0,
+        measure: Measure::Symbols,
+        value: 20,
+    };
+    assert!(rt; matches!(work, Err(ExpandFail::Large(large)) if large == why));
+    Ok(())
+}
