@@ -1,3 +1,4 @@
+ghost use Rattle.std.specs.Prelude.{◌<◌, length};
 ghost use Rattle.fold_store.specs.Ladder.{ladder, ladder_lawful};
 
 use crate::{InsertFail, Places, Store, Taken, Verdict, Work};
@@ -60,8 +61,35 @@ fn plain(top: u64) -> Numbers {
     }
 }
 
-fn list(alloc: Global, items: &[u64]) -> Result<List<u64>, NoMemory> {
-    Ok(List::from_slice(alloc, items)?)
+/// A store with these few roots.
+fn open<F: Folding<Item = u64> + Drop>(
+    alloc: Global,
+    rules: F,
+    roots: &[u64],
+    budget: u32,
+) -> Result<Store<F>, Fail>
+    requires { length roots.now < 10 }
+{
+    let roots = List::from_slice(alloc, roots)?;
+    Ok(Store::open(alloc, rules, roots, budget)?)
+}
+
+/// The end of the pointers from an entry, and where the entry comes from.
+fn end_and_origin(rt: &impl Abort, store: &Store<Numbers>, id: u32) -> (u32, Origin) {
+    assert!(rt; id < store.entries());
+    (store.follow(id), store.origin(id))
+}
+
+/// Inserts a child that the work has.
+fn insert<F: Folding>(
+    rt: &impl Abort,
+    alloc: Global,
+    store: &mut Store<F>,
+    work: &Work<'_, F>,
+    child: u64,
+) -> Result<Placed, InsertFail> {
+    assert!(rt; child < work.children());
+    store.insert(alloc, 0, work, child)
 }
 
 fn check_live(
@@ -82,24 +110,26 @@ fn a_ladder_fills_the_store(rt: HostRuntime) -> Result<(), Fail> {
     let rules = Ladder {
         numbers: plain(100_000),
     };
-    let mut store = Store::open(alloc, rules.copy(alloc)?, list(alloc, [0].as_slice())?, 1)?;
+    let mut store = open(alloc, rules.copy(alloc)?, [0].as_slice(), 1)?;
     assert_eq!(rt; store.take(), Taken::Got(0));
     let work = Work::make(alloc, &rules, 0)?;
-    let children = work.children();
-    assert_eq!(rt; children, 100_000);
+    assert_eq!(rt; work.children(), 100_000);
     for child in 0..99_999u64 {
-        let placed = store.insert(alloc, 0, &work, child)?;
+        let placed = insert(&rt, alloc, &mut store, &work, child)?;
         assert_eq!(rt; placed, Placed::Kept(child as u32 + 1));
     }
     assert_eq!(rt; store.entries(), 100_000);
     assert_eq!(rt; store.live(alloc)?.as_slice(), [99_999].as_slice());
-    let full = store.insert(alloc, 0, &work, 99_999);
+    let full = insert(&rt, alloc, &mut store, &work, 99_999);
     assert!(rt; matches!(full, Err(InsertFail::Full)));
     assert_eq!(rt; store.entries(), 100_000);
-    assert_eq!(rt; store.insert(alloc, 0, &work, 4)?, Placed::Folded(99_999));
+    assert_eq!(rt;
+        insert(&rt, alloc, &mut store, &work, 4)?,
+        Placed::Folded(99_999)
+    );
     let other = Work::make(alloc, &rules, 1)?;
     assert_eq!(rt; other.children(), 1);
-    let stranger = store.insert(alloc, 0, &other, 0);
+    let stranger = insert(&rt, alloc, &mut store, &other, 0);
     assert!(rt; matches!(stranger, Err(InsertFail::Stranger)));
     Ok(())
 }
@@ -109,14 +139,12 @@ fn a_ladder_fills_the_store(rt: HostRuntime) -> Result<(), Fail> {
 #[test]
 fn roots_are_folded(rt: HostRuntime) -> Result<(), Fail> {
     let alloc = rt.alloc();
-    let roots = list(alloc, [1, 2, 1, 3, 3].as_slice())?;
-    let mut store = Store::open(alloc, plain(5), roots, 1)?;
+    let mut store = open(alloc, plain(5), [1, 2, 1, 3, 3].as_slice(), 1)?;
     check_live(&rt, alloc, &store, [2].as_slice())?;
     assert_eq!(rt; store.entries(), 3);
-    assert_eq!(rt; store.follow(0), 2);
-    assert_eq!(rt; store.follow(1), 2);
-    assert_eq!(rt; store.origin(1), Origin::Root(1));
-    assert_eq!(rt; store.origin(2), Origin::Root(3));
+    assert!(rt; end_and_origin(&rt, &store, 0) == (2, Origin::Root(0)));
+    assert!(rt; end_and_origin(&rt, &store, 1) == (2, Origin::Root(1)));
+    assert!(rt; end_and_origin(&rt, &store, 2) == (2, Origin::Root(3)));
     assert_eq!(rt; store.item(2).copied(), Some(3));
     assert!(rt; store.item(3).is_none());
     assert_eq!(rt; store.take(), Taken::Got(2));
@@ -130,7 +158,7 @@ fn roots_are_folded(rt: HostRuntime) -> Result<(), Fail> {
 fn two_entries_are_finished(rt: HostRuntime) -> Result<(), Fail> {
     let alloc = rt.alloc();
     let rules = plain(1);
-    let mut store = Store::open(alloc, rules, list(alloc, [10, 0].as_slice())?, 3)?;
+    let mut store = open(alloc, rules, [10, 0].as_slice(), 3)?;
     assert_eq!(rt; store.take(), Taken::Got(0));
     store.reset()?;
     check_live(&rt, alloc, &store, [0, 1].as_slice())?;
@@ -167,7 +195,7 @@ fn two_entries_are_finished(rt: HostRuntime) -> Result<(), Fail> {
 #[test]
 fn searches_end(rt: HostRuntime) -> Result<(), Fail> {
     let alloc = rt.alloc();
-    let mut store = Store::open(alloc, plain(1), list(alloc, [10, 0].as_slice())?, 1)?;
+    let mut store = open(alloc, plain(1), [10, 0].as_slice(), 1)?;
     assert_eq!(rt; store.take(), Taken::Got(0));
     assert_eq!(rt; store.take(), Taken::Spent);
     let found = Numbers {
@@ -175,7 +203,7 @@ fn searches_end(rt: HostRuntime) -> Result<(), Fail> {
         goal: 10,
         limit: 100,
     };
-    let mut store = Store::open(alloc, found, list(alloc, [0, 10].as_slice())?, 1)?;
+    let mut store = open(alloc, found, [0, 10].as_slice(), 1)?;
     assert_eq!(rt; store.take(), Taken::Stopped);
     assert_eq!(rt; store.verdict(), Verdict::Found(1));
     Ok(())
@@ -190,7 +218,7 @@ fn a_search_is_halted(rt: HostRuntime) -> Result<(), Fail> {
         goal: 100,
         limit: 10,
     };
-    let mut store = Store::open(alloc, rules, list(alloc, [20].as_slice())?, 1)?;
+    let mut store = open(alloc, rules, [20].as_slice(), 1)?;
     assert_eq!(rt; store.take(), Taken::Got(0));
     let work = Work::make(alloc, &rules, 20);
     let why = Large {
