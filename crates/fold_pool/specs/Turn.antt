@@ -74,3 +74,9 @@ Turns rules s (Ok Nothing) t = Takes (rules s.rules) s NothingWaits t
 Turns rules s (Ok Spent) t = Takes (rules s.rules) s IsSpent t
 Turns rules s (Ok Stopped) t = Takes (rules s.rules) s IsStopped t
 Turns rules s (Err fail) t = TakesAndWorks rules s (Err fail) t
+
+-- The rules, the roots and the budget are the same.
+pub record SameHead {F I : Type 0} (s t : State F I) : Type 0 where
+  pub rules : t.rules ≡ s.rules
+  pub roots : t.roots ≡ s.roots
+  pub budget : t.budget ≡ s.budget

@@ -1,11 +1,11 @@
-ghost use Rattle.std.specs.Prelude.{◌≡◌, ◌<◌, length, Ok, Err, IfOk, OnOk, OnErr};
+ghost use Rattle.std.specs.Prelude.{◌≡◌, ◌<◌, length, None, Some, Ok, Err, IfOk, OnOk, OnErr};
 ghost use Rattle.std.specs.Result.{IsErrOf};
 ghost use Rattle.fold_core.specs.declared.event.Event.TheVariants.{Insert};
 ghost use Rattle.fold_store.specs.Table.{TakenEntry};
-ghost use Rattle.fold_store.specs.Store.{Next, IsFor, Finishes, Inserts};
-ghost use Rattle.fold_pool.specs.Turn.{InOrder, Inserted, Left, NoRoomIn, Works, Turns};
+ghost use Rattle.fold_store.specs.Store.{Next, item_at, IsFor, Finishes, Inserts};
+ghost use Rattle.fold_pool.specs.Turn.{Expanded, InOrder, Inserted, Left, NoRoomIn, Works, Turns, SameHead};
 
-use fold_core::{ExpandFail, Folding, Placed};
+use fold_core::{ExpandFail, Folding, NoMemory, Placed};
 use fold_store::{InsertFail, Places, Store, StoreFail, Taken, Work};
 use npa_list::List;
 use std::alloc::Global;
@@ -92,6 +92,37 @@ fn finish<F: Folding>(
     }
 }
 
+/// Inserts each child of the taken entry, and finishes it.
+fn work_off<F: Folding>(
+    alloc: Global,
+    store: &mut Store<F>,
+    id: u32,
+    work: &Work<'_, F>,
+) -> Result<(), StoreFail>
+    requires { IsFor store.old id work.now }
+    ensures ok { OnOk result (Expanded F.rules id store.old store.new) }
+    ensures left { OnErr result (Left F.rules id store.old store.new) }
+    ensures full { IsErrOf result StoreFail.Full → NoRoomIn (F.rules store.new.rules) id store.new }
+{
+    work.children();
+    let places = match insert_all(alloc, store, id, work) {
+        Ok(places) => places,
+        Err(fail) => return Err(fail),
+    };
+    finish(alloc, store, id, work, &places)
+}
+
+/// The item of the taken entry.
+fn item_of<F: Folding>(alloc: Global, store: &Store<F>, id: u32) -> Result<F::Item, NoMemory>
+    requires { TakenEntry id store.now.core.entries }
+    ensures { IfOk result (λ x. item_at store.now.core.entries id ≡ Some x) }
+{
+    match store.item(id) {
+        Some(item) => F::copy_item(alloc, item),
+        None => unreachable!(),
+    }
+}
+
 /// Expands the taken entry.
 fn expand<F: Folding>(
     alloc: Global,
@@ -101,18 +132,18 @@ fn expand<F: Folding>(
 ) -> Result<Turn, StoreFail>
     requires same { rules.now ≡ store.old.rules }
     requires taken { TakenEntry id store.old.core.entries }
+    requires goes_on { store.old.core.halted ≡ None }
     ensures { Works F.rules id store.old result store.new }
 {
-    let item = match store.item(id) {
-        Some(item) => F::copy_item(alloc, item)?,
-        None => unreachable!(),
+    let item = match item_of(alloc, store, id) {
+        Ok(item) => item,
+        Err(_) => return Err(StoreFail::NoMemory),
     };
     match Work::make(alloc, rules, item) {
-        Ok(work) => {
-            let places = insert_all(alloc, store, id, &work)?;
-            finish(alloc, store, id, &work, &places)?;
-            Ok(Turn::Finished)
-        }
+        Ok(work) => match work_off(alloc, store, id, &work) {
+            Ok(()) => Ok(Turn::Finished),
+            Err(fail) => Err(fail),
+        },
         Err(ExpandFail::Large(why)) => {
             store.halt(id, why);
             Ok(Turn::Halted)
@@ -124,13 +155,10 @@ fn expand<F: Folding>(
 /// One turn: it takes an entry, makes its expansion, inserts each child in order and finishes the
 /// entry. After a refusal the entry that it took is taken still, and the inserts that it made stand
 /// in the history.
-pub fn one<F: Folding>(
-    alloc: Global,
-    store: &mut Store<F>,
-    rules: &F,
-) -> Result<Turn, StoreFail>
+pub fn one<F: Folding>(alloc: Global, store: &mut Store<F>, rules: &F) -> Result<Turn, StoreFail>
     requires { rules.now ≡ store.old.rules }
-    ensures { Turns F.rules store.old result store.new }
+    ensures turn { Turns F.rules store.old result store.new }
+    ensures head { SameHead store.old store.new }
 {
     match store.take() {
         Taken::Got(id) => expand(alloc, store, rules, id),
