@@ -102,8 +102,44 @@ fn check_live(
     Ok(())
 }
 
-// Each of 99,999 children retires the one before it, and the first its taken parent. The store is
-// full then, and a child that is covered is folded still.
+/// Each of 99,999 children retires the one before it, and the first its taken parent.
+fn fill(
+    rt: &impl Abort,
+    alloc: Global,
+    store: &mut Store<Ladder>,
+    work: &Work<'_, Ladder>,
+) -> Result<(), InsertFail> {
+    for child in 0..99_999u64 {
+        let placed = insert(rt, alloc, store, work, child)?;
+        assert!(rt; placed == Placed::Kept(child as u32 + 1));
+    }
+    Ok(())
+}
+
+/// The store is full, and a child that is covered is folded still.
+fn check_full(
+    rt: &impl Abort,
+    alloc: Global,
+    store: &mut Store<Ladder>,
+    work: &Work<'_, Ladder>,
+) -> Result<(), InsertFail> {
+    let full = insert(rt, alloc, store, work, 99_999);
+    assert!(rt; matches!(full, Err(InsertFail::Full)));
+    let folded = insert(rt, alloc, store, work, 4)?;
+    assert!(rt; folded == Placed::Folded(99_999));
+    Ok(())
+}
+
+/// Only the last entry lives.
+fn check_last(rt: &impl Abort, alloc: Global, store: &Store<Ladder>) -> Result<(), NoMemory> {
+    assert!(rt; store.entries() == 100_000);
+    let live = store.live(alloc)?;
+    assert!(rt; live.len() == 1);
+    assert!(rt; live.get(0).copied() == Some(99_999));
+    Ok(())
+}
+
+// A full store, and a work of another item.
 #[test]
 fn a_ladder_fills_the_store(rt: HostRuntime) -> Result<(), Fail> {
     let alloc = rt.alloc();
@@ -111,24 +147,12 @@ fn a_ladder_fills_the_store(rt: HostRuntime) -> Result<(), Fail> {
         numbers: plain(100_000),
     };
     let mut store = open(alloc, rules.copy(alloc)?, [0].as_slice(), 1)?;
-    assert_eq!(rt; store.take(), Taken::Got(0));
+    assert!(rt; store.take() == Taken::Got(0));
     let work = Work::make(alloc, &rules, 0)?;
-    assert_eq!(rt; work.children(), 100_000);
-    for child in 0..99_999u64 {
-        let placed = insert(&rt, alloc, &mut store, &work, child)?;
-        assert_eq!(rt; placed, Placed::Kept(child as u32 + 1));
-    }
-    assert_eq!(rt; store.entries(), 100_000);
-    assert_eq!(rt; store.live(alloc)?.as_slice(), [99_999].as_slice());
-    let full = insert(&rt, alloc, &mut store, &work, 99_999);
-    assert!(rt; matches!(full, Err(InsertFail::Full)));
-    assert_eq!(rt; store.entries(), 100_000);
-    assert_eq!(rt;
-        insert(&rt, alloc, &mut store, &work, 4)?,
-        Placed::Folded(99_999)
-    );
+    fill(&rt, alloc, &mut store, &work)?;
+    check_full(&rt, alloc, &mut store, &work)?;
+    check_last(&rt, alloc, &store)?;
     let other = Work::make(alloc, &rules, 1)?;
-    assert_eq!(rt; other.children(), 1);
     let stranger = insert(&rt, alloc, &mut store, &other, 0);
     assert!(rt; matches!(stranger, Err(InsertFail::Stranger)));
     Ok(())
@@ -153,59 +177,47 @@ fn roots_are_folded(rt: HostRuntime) -> Result<(), Fail> {
     Ok(())
 }
 
-// A reset of one of two entries; then both are finished, the first by a hint.
-#[test]
-fn two_entries_are_finished(rt: HostRuntime) -> Result<(), Fail> {
-    let alloc = rt.alloc();
-    let rules = plain(1);
-    let mut store = open(alloc, rules, [10, 0].as_slice(), 3)?;
-    assert_eq!(rt; store.take(), Taken::Got(0));
-    store.reset()?;
-    check_live(&rt, alloc, &store, [0, 1].as_slice())?;
-    assert_eq!(rt; store.take(), Taken::Got(0));
-    assert_eq!(rt; store.take(), Taken::Got(1));
-    assert_eq!(rt; store.verdict(), Verdict::Running);
-    let ten = Work::make(alloc, &rules, 10)?;
-    let zero = Work::make(alloc, &rules, 0)?;
-    let none: Places = List::new(alloc);
-    let mut hints: Places = List::new(alloc);
-    hints.push(1)?;
-    assert!(rt;
-        matches!(
-            store.finish(alloc, 0, &zero, &none),
-            Err(InsertFail::Stranger)
-        )
-    );
-    store.finish(alloc, 0, &ten, &hints)?;
-    assert_eq!(rt; store.entries(), 2);
-    store.finish(alloc, 1, &zero, &none)?;
-    assert_eq!(rt; store.entries(), 3);
-    assert_eq!(rt; store.finished(), 2);
-    check_live(&rt, alloc, &store, [0, 2].as_slice())?;
-    assert_eq!(rt; store.take(), Taken::Got(2));
-    assert_eq!(rt; store.take(), Taken::Nothing);
-    let one = Work::make(alloc, &rules, 1)?;
-    store.finish(alloc, 2, &one, &none)?;
-    assert_eq!(rt; store.verdict(), Verdict::Done);
-    store.runs();
+/// Makes the expansion of an item and finishes the entry with it.
+fn finish(
+    alloc: Global,
+    store: &mut Store<Numbers>,
+    id: u32,
+    item: u64,
+    hints: &[u32],
+) -> Result<(), Fail> {
+    let rules = *store.rules();
+    let work = Work::make(alloc, &rules, item)?;
+    let hints: Places = List::from_slice(alloc, hints)?;
+    store.finish(alloc, id, &work, &hints)?;
     Ok(())
 }
 
-// The budget, what halts a search and what is found.
+// A reset where one of two entries is taken.
 #[test]
-fn searches_end(rt: HostRuntime) -> Result<(), Fail> {
+fn a_reset_puts_back(rt: HostRuntime) -> Result<(), Fail> {
     let alloc = rt.alloc();
     let mut store = open(alloc, plain(1), [10, 0].as_slice(), 1)?;
-    assert_eq!(rt; store.take(), Taken::Got(0));
-    assert_eq!(rt; store.take(), Taken::Spent);
-    let found = Numbers {
-        top: 1,
-        goal: 10,
-        limit: 100,
-    };
-    let mut store = open(alloc, found, [0, 10].as_slice(), 1)?;
-    assert_eq!(rt; store.take(), Taken::Stopped);
-    assert_eq!(rt; store.verdict(), Verdict::Found(1));
+    assert!(rt; store.take() == Taken::Got(0));
+    store.reset()?;
+    check_live(&rt, alloc, &store, [0, 1].as_slice())?;
+    assert!(rt; store.take() == Taken::Got(0));
+    assert!(rt; store.take() == Taken::Spent);
+    Ok(())
+}
+
+// Two entries are finished, the first by a hint.
+#[test]
+fn two_entries_are_finished(rt: HostRuntime) -> Result<(), Fail> {
+    let alloc = rt.alloc();
+    let mut store = open(alloc, plain(1), [10, 0].as_slice(), 2)?;
+    assert!(rt; store.take() == Taken::Got(0));
+    assert!(rt; store.take() == Taken::Got(1));
+    finish(alloc, &mut store, 0, 10, [1].as_slice())?;
+    assert!(rt; store.entries() == 2);
+    finish(alloc, &mut store, 1, 0, [].as_slice())?;
+    check_live(&rt, alloc, &store, [0, 2].as_slice())?;
+    assert!(rt; store.verdict() == Verdict::Open);
+    store.runs();
     Ok(())
 }
 
