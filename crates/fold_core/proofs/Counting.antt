@@ -20,7 +20,7 @@ use Rattle.fold_core.proofs.Stepping.{placed_keeps, settles_keeps}
 abbrev pub weight : {I : Type 0} → Entry I → ℕ
 weight e = cond (is_taken e.status) 1 0
 
-taken_map : {I : Type 0} (g : Entry I → Entry I) → ((e : Entry I) → is_taken (g e).status ≡ is_taken e.status) → (es : List (Entry I))
+pub taken_map : {I : Type 0} (g : Entry I → Entry I) → ((e : Entry I) → is_taken (g e).status ≡ is_taken e.status) → (es : List (Entry I))
     → sum_by weight (map g es) ≡ sum_by weight es
 taken_map g same [] = refl
 taken_map g same (e ∷ es) =
@@ -30,7 +30,7 @@ taken_map g same (e ∷ es) =
     let head : weight (g e) ≡ weight e = ap (λ b. cond b 1 0) (same e) in
     omega arith
 
-taken_none : {I : Type 0} (g : Entry I → Entry I) → ((e : Entry I) → is_taken (g e).status ≡ false) → (es : List (Entry I)) → sum_by weight (map g es) ≡ 0
+pub taken_none : {I : Type 0} (g : Entry I → Entry I) → ((e : Entry I) → is_taken (g e).status ≡ false) → (es : List (Entry I)) → sum_by weight (map g es) ≡ 0
 taken_none g none [] = refl
 taken_none g none (e ∷ es) =
     let now = sum_by-cons weight (g e) (map g es) in
@@ -38,7 +38,7 @@ taken_none g none (e ∷ es) =
     let head : weight (g e) ≡ 0 = ap (λ b. cond b 1 0) (none e) in
     omega arith
 
-taken_set : {I : Type 0} (es : List (Entry I)) (n : ℕ) (e f : Entry I) → Stands es n e → sum_by weight (set es n f) + weight e ≡ sum_by weight es + weight f
+pub taken_set : {I : Type 0} (es : List (Entry I)) (n : ℕ) (e f : Entry I) → Stands es n e → sum_by weight (set es n f) + weight e ≡ sum_by weight es + weight f
 taken_set [] n e f s = absurd (let q = s.is in cc)
 taken_set (d ∷ es) zero e f s =
     let now = sum_by-cons weight f es in
@@ -53,7 +53,7 @@ taken_set (d ∷ es) (suc n) e f s =
     let rest = taken_set es n e f (record { is = s.is }) in
     omega arith
 
-taken_kept : {I : Type 0} (r : Rules I) (tick : ℕ) (x : I) (origin : Origin) (c : Core I) → taken_count (kept r tick x origin c).entries ≡ taken_count c.entries
+pub taken_kept : {I : Type 0} (r : Rules I) (tick : ℕ) (x : I) (origin : Origin) (c : Core I) → taken_count (kept r tick x origin c).entries ≡ taken_count c.entries
 taken_kept r tick x origin c =
     let g = overtaken r x (length c.entries) tick in
     let pushed = sum_by_push weight (map g c.entries) (fresh x origin) in
@@ -219,7 +219,7 @@ counted_step {r = r} {budget = budget} {before = before} (finish n ps children d
 counted_step {before = before} (halt n why free x) old = still before (Halt n why) refl (record { number = old.number; different = old.different; over = old.over; below = old.below })
 counted_step {before = before} reset old = still before Reset refl (counted_reset old)
 
-counted_after : {I : Type 0} {r : Rules I} {roots : List I} {budget : ℕ} {history : List Event} {c : Core I} → After r roots budget history c → Counted budget (finishes history) c
+pub counted_after : {I : Type 0} {r : Rules I} {roots : List I} {budget : ℕ} {history : List Event} {c : Core I} → After r roots budget history c → Counted budget (finishes history) c
 counted_after begin = record {
   number = refl;
   different = λ i j n s t. absurd (let q = s.is in cc);

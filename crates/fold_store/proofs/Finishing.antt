@@ -1,0 +1,292 @@
+-- A finish: the inserts that it made on the way become one event.
+use Rattle.std.proofs.Common.{◌≡◌, ℕ, zero, suc, ◌+◌, ◌-◌, ◌<◌, ◌≤◌, ◌↔◌, Bool, true, false, cond, List, [], ◌∷◌, ◌++◌, length, map, set, take, get_or, None, Some, IsTrue, Result, Ok, Err, IfOk, OnErr, slice_get, refl, ap, sym, ◌∙◌, subst, arith, length-append, length-set, length-take}
+use Rattle.std.proofs.lemmas.List.{length-map, take-append-le}
+use Rattle.fold_core.specs.declared.event.Placed.{Placed}
+use Rattle.fold_core.specs.declared.event.Placed.TheVariants.{Kept, Folded}
+use Rattle.fold_core.specs.declared.event.Origin.{Origin}
+use Rattle.fold_core.specs.declared.event.Origin.TheVariants.{Child}
+use Rattle.fold_core.specs.declared.event.Status.{Status}
+use Rattle.fold_core.specs.declared.event.Status.TheVariants.{Waiting, Taken, Finished, Retired}
+use Rattle.fold_core.specs.declared.event.Event.{Event}
+use Rattle.fold_core.specs.declared.event.Event.TheVariants.{Insert, Finish}
+use Rattle.fold_core.specs.Rules.{Rules, Lawful}
+use Rattle.fold_core.specs.Machine.{Entry, Core, Stands, is_live, is_taken, taken_count, LiveCover, kept, placed, place_of, Accepts, Settles, settled, settles, Expanding, let_go, Step, finish, After, more}
+use Rattle.fold_core.proofs.Places.{stands_one, stands_within, stands_map, stands_set_same}
+use Rattle.fold_core.proofs.Keeping.{Outcome, was_retired, stays, goes, outcome, outcome_item, kept_old}
+use Rattle.fold_core.proofs.Stepping.{sound_after, accepts_place, placed_keeps}
+use Rattle.fold_core.proofs.Counting.{weight, taken_set}
+use Rattle.fold_store.specs.Table.{most_entries, TakenEntry, clip_status, clip_entry}
+use Rattle.fold_store.specs.declared.error.StoreFail.{StoreFail}
+use Rattle.fold_store.specs.Work.{Expansion}
+use Rattle.fold_store.specs.Store.{State, Next, owed_by, owed, owed_halt, Sound, ChildOf, IsFor, Inserts, nothing, one_more, Settled, folded, inserted, clipped, Closing, closed, Finishes}
+use Rattle.fold_store.proofs.Clipping.{clip_taken, clip_owed, owed_clip, clipped_placed, accepts_clip, clip_none}
+use Rattle.fold_store.proofs.Events.{in_budget, owed_set}
+
+-- One more child is placed.
+settles_more : {I : Type 0} {r : Rules I} {tick parent k : ℕ} {xs : List I} {ps : List Placed} {c d : Core I} (x : I) (p : Placed) (j : ℕ)
+    → Settles r tick parent k xs ps c d → j ≡ k + length xs → Accepts r x p d
+    → Settles r tick parent k (xs ++ x ∷ []) (ps ++ p ∷ []) c (placed r tick x (Child parent j) p d)
+settles_more {r = r} {tick = tick} {parent = parent} x p j (settled k c) at a =
+    let is : j ≡ k = omega arith in
+    subst (λ m. Settles r tick parent k (x ∷ []) (p ∷ []) c (placed r tick x (Child parent m) p c)) (sym is)
+    (settles k x [] p [] c (placed r tick x (Child parent k) p c) a (settled (k + 1) (placed r tick x (Child parent k) p c)))
+settles_more {r = r} {tick = tick} {parent = parent} x p j (settles k y ys q qs c d b rest) at a =
+    let move : j ≡ k + 1 + length ys = omega arith in
+    settles k y (ys ++ x ∷ []) q (qs ++ p ∷ []) c (placed r tick x (Child parent j) p d) b (settles_more x p j rest move a)
+
+expanding_kept : {I : Type 0} (r : Rules I) (tick n : ℕ) (xs : List I) (x : I) (origin : Origin) (c : Core I) → Expanding r n xs c → Expanding r n xs (kept r tick x origin c)
+expanding_kept r tick n xs x origin c old = by (outcome r x (length c.entries) tick old.entry) (kept_old r tick x origin c old.stands)
+  where
+    by : {f : Entry _} → Outcome r x (length c.entries) tick old.entry f → Stands (kept r tick x origin c).entries n f → Expanding r n xs (kept r tick x origin c)
+    by (was_retired p) s = record { entry = old.entry; stands = s; taken = old.taken; expands = old.expands }
+    by (stays p q) s = record { entry = old.entry; stands = s; taken = old.taken; expands = old.expands }
+    by (goes p q) s = record { entry = _; stands = s; taken = old.taken; expands = old.expands }
+
+pub expanding_placed : {I : Type 0} (r : Rules I) (tick n : ℕ) (xs : List I) (x : I) (origin : Origin) (p : Placed) (c : Core I) → Expanding r n xs c → Expanding r n xs (placed r tick x origin p c)
+expanding_placed r tick n xs x origin p c e = placed_keeps r tick (Expanding r n xs) (λ y o w v. expanding_kept r tick n xs y o w v) x origin p c e
+
+-- How far a finish of entry n has come since the store was `old`: these children are placed.
+pub record Finishing {F I : Type 0} (rules : F → Rules I) (old now : State F I) (n : ℕ) (children xs : List I) (ps : List Placed) : Type 0 where
+  pub inserts : Inserts rules n old now
+  pub same : now ≡ record old { history = now.history; core = now.core }
+  pub history : take (length old.history) now.history ≡ old.history
+  pub longer : length old.history ≤ length now.history
+  pub began : Expanding (rules old.rules) n children old.core
+  pub expanding : Expanding (rules old.rules) n children now.core
+  pub settles : Settles (rules old.rules) (length old.history) n 0 xs ps old.core (clipped (length old.history) now.core)
+
+expanding_for : {F I : Type 0} (rules : F → Rules I) (s : State F I) (n : ℕ) (w : Expansion F I) → IsFor s n w → (rules w.rules).expansion w.item ≡ Ok w.children → Expanding (rules s.rules) n w.children s.core
+expanding_for rules s n w f e = record {
+  entry = f.entry;
+  stands = f.stands;
+  taken = f.taken;
+  expands = ap (λ v. (rules v).expansion f.entry.item) f.rules ∙ ap (rules w.rules).expansion f.item ∙ e;
+}
+
+pub take_all : {X : Type 0} (xs : List X) → take (length xs) xs ≡ xs
+take_all [] = refl
+take_all (x ∷ xs) = ap (λ ys. x ∷ ys) (take_all xs)
+
+pub finishing_start : {F I : Type 0} (rules : F → Rules I) (s : State F I) (n : ℕ) (w : Expansion F I) (xs : List I) (ps : List Placed) → Lawful (rules s.rules) → After (rules s.rules) s.roots s.budget s.history s.core
+    → IsFor s n w → (rules w.rules).expansion w.item ≡ Ok w.children → xs ≡ [] → ps ≡ [] → Finishing rules s s n w.children xs ps
+finishing_start rules s n w xs ps law after f e no_child no_place =
+    let ticks = (sound_after law after).pointers in
+    let same : clipped (length s.history) s.core ≡ s.core =
+    ap (λ es. record s.core { entries = es }) (clip_none (length s.history) s.core.entries (λ m d to tick taken t q. (ticks m d to tick taken t q).0)) in
+    record {
+      inserts = nothing;
+      same = refl;
+      history = take_all s.history;
+      longer = omega arith;
+      began = expanding_for rules s n w f e;
+      expanding = expanding_for rules s n w f e;
+      settles = subst (λ v. Settles (rules s.rules) (length s.history) n 0 v ps s.core (clipped (length s.history) s.core)) (sym no_child)
+          (subst (λ v. Settles (rules s.rules) (length s.history) n 0 [] v s.core (clipped (length s.history) s.core)) (sym no_place)
+          (subst (λ v. Settles (rules s.rules) (length s.history) n 0 [] [] s.core v) (sym same) (settled 0 s.core)));
+    }
+
+pub finishing_child : {F I : Type 0} {rules : F → Rules I} {old now : State F I} {n : ℕ} {children xs : List I} {ps : List Placed} (k : ℕ) (x : I)
+    → Finishing rules old now n children xs ps → Stands children k x → ChildOf (rules now.rules) now.core n k x
+finishing_child {rules = rules} {now = now} {n = n} {children = children} k x f s =
+    let r = ap (λ (v : State _ _). rules v.rules) f.same in
+    record { children = children; expanding = subst (λ v. Expanding v n children now.core) (sym r) f.expanding; stands = s }
+
+finishing_folded : {F I : Type 0} {rules : F → Rules I} {old now : State F I} {n : ℕ} {children xs : List I} {ps : List Placed} (k : ℕ) (x : I) (into : ℕ)
+    → Finishing rules old now n children xs ps → k ≡ length xs → LiveCover (rules now.rules) x into now.core.entries
+    → Finishing rules old now n children (xs ++ x ∷ []) (ps ++ Folded into ∷ [])
+finishing_folded {rules = rules} {old = old} {now = now} k x into f at cover =
+    let cover_old = subst (λ v. LiveCover v x into now.core.entries) (ap (λ (v : State _ _). rules v.rules) f.same) cover in
+    record {
+      inserts = f.inserts;
+      same = f.same;
+      history = f.history;
+      longer = f.longer;
+      began = f.began;
+      expanding = f.expanding;
+      settles = settles_more x (Folded into) k f.settles (omega arith) (accepts_clip (rules old.rules) (length old.history) x (Folded into) now.core cover_old);
+    }
+
+finishing_inserted : {F I : Type 0} {rules : F → Rules I} {old now : State F I} {n : ℕ} {children xs : List I} {ps : List Placed} (k : ℕ) (x : I) (p : Placed) (next : State F I)
+    → Finishing rules old now n children xs ps → k ≡ length xs → p ≡ place_of (rules now.rules) x now.core → Next (rules now.rules) now (Insert n k p) next
+    → next.core ≡ placed (rules now.rules) (length now.history) x (Child n k) p now.core
+    → Finishing rules old next n children (xs ++ x ∷ []) (ps ++ p ∷ [])
+finishing_inserted {rules = rules} {old = old} {now = now} {n = n} {children = children} {xs = xs} {ps = ps} k x p next f at is step after =
+    let r = rules old.rules in
+    let start = length old.history in
+    let event = Insert n k p in
+    let same_rules : rules now.rules ≡ r = ap (λ (v : State _ _). rules v.rules) f.same in
+    let core : next.core ≡ placed r (length now.history) x (Child n k) p now.core = after ∙ ap (λ v. placed v (length now.history) x (Child n k) p now.core) same_rules in
+    let place : p ≡ place_of r x now.core = is ∙ ap (λ v. place_of v x now.core) same_rules in
+    let events : next.history ≡ now.history ++ event ∷ [] = ap (λ (v : State _ _). v.history) step.same in
+    let many = length-append now.history (event ∷ []) in
+    let total : length next.history ≡ length (now.history ++ event ∷ []) = ap length events in
+    let longer = f.longer in
+    let done = settles_more x p k f.settles (omega arith) (accepts_clip r start x p now.core (accepts_place r x p now.core place)) in
+    let clip : clipped start next.core ≡ placed r start x (Child n k) p (clipped start now.core) =
+    ap (clipped start) core ∙ clipped_placed r (length now.history) start x (Child n k) p now.core longer in
+    record {
+      inserts = one_more now next k p f.inserts step;
+      same = step.same ∙ ap (λ (v : State _ _). record v { history = now.history ++ event ∷ []; core = next.core }) f.same ∙ ap (λ h. record old { history = h; core = next.core }) (sym events);
+      history = ap (take start) events ∙ take-append-le start now.history (event ∷ []) longer ∙ f.history;
+      longer = omega arith;
+      began = f.began;
+      expanding = subst (λ v. Expanding r n children v) (sym core) (expanding_placed r (length now.history) n children x (Child n k) p now.core f.expanding);
+      settles = subst (λ v. Settles r start n 0 (xs ++ x ∷ []) (ps ++ p ∷ []) old.core v) (sym clip) done;
+    }
+
+pub finishing_next : {F I : Type 0} {rules : F → Rules I} {old now next : State F I} {n : ℕ} {children xs : List I} {ps : List Placed} {k : ℕ} {x : I} {p : Placed}
+    → Settled (rules now.rules) n k x now p next → Finishing rules old now n children xs ps → k ≡ length xs → Finishing rules old next n children (xs ++ x ∷ []) (ps ++ p ∷ [])
+finishing_next {k = k} {x = x} (folded into cover) f at = finishing_folded k x into f at cover
+finishing_next {k = k} {x = x} (inserted p next is step after) f at = finishing_inserted k x p next f at is step after
+
+-- All children are placed.
+pub finishing_closing : {F I : Type 0} {rules : F → Rules I} {old now : State F I} {n start : ℕ} {children xs : List I} {ps : List Placed}
+    → Finishing rules old now n children xs ps → xs ≡ children → start ≡ length old.history → After (rules old.rules) old.roots old.budget old.history old.core → Closing (rules now.rules) now start n ps
+finishing_closing {rules = rules} {old = old} {now = now} {n = n} {start = start} {children = children} {ps = ps} f whole at after =
+    let r = rules old.rules in
+    let v : State _ _ = record old { history = now.history; core = now.core } in
+    let closing : Closing r v (length old.history) n ps = record {
+      before = old.core;
+      after = subst (λ h. After r old.roots old.budget h old.core) (sym f.history) after;
+      start_is = ap length f.history;
+      children = children;
+      expanding = f.began;
+      settles = subst (λ w. Settles r (length old.history) n 0 w ps old.core (clipped (length old.history) now.core)) whole f.settles;
+      taken = record { entry = f.expanding.entry; stands = f.expanding.stands; taken = f.expanding.taken };
+    } in
+    subst (λ (w : State _ _). Closing (rules w.rules) w start n ps) (sym f.same) (subst (λ k. Closing r v k n ps) (sym at) closing)
+
+pub finishing_done : {F I : Type 0} {rules : F → Rules I} {old now new : State F I} {n start : ℕ} {children xs : List I} {ps : List Placed}
+    → Finishing rules old now n children xs ps → xs ≡ children → start ≡ length old.history → ((e : Entry I) → Stands now.core.entries n e → new ≡ closed now start n ps e)
+    → Finishes (rules old.rules) n old new
+finishing_done {rules = rules} {old = old} {now = now} {new = new} {n = n} {start = start} {children = children} {ps = ps} f whole at is =
+    let r = rules old.rules in
+    let begin = length old.history in
+    let e = f.expanding.entry in
+    let made : new ≡ closed now begin n ps e = is e f.expanding.stands ∙ ap (λ k. closed now k n ps e) at in
+    let turned : Entry _ = record e { status = let_go (clip_status begin e.status) } in
+    let core : Core _ = record now.core { entries = set (map (clip_entry begin) now.core.entries) n turned; finished = now.core.finished + 1 } in
+    let core_is : new.core ≡ core = ap (λ (v : State _ _). v.core) made in
+    let settles = subst (λ w. Settles r begin n 0 w ps old.core (clipped begin now.core)) whole f.settles in
+    let step : Step r old.roots old.budget old.history old.core (Finish n ps) core =
+    finish n ps children (clipped begin now.core) (clip_entry begin e) f.began settles (stands_map (clip_entry begin) f.expanding.stands) in
+    record {
+      places = ps;
+      next = record {
+        step = subst (λ c. Step r old.roots old.budget old.history old.core (Finish n ps) c) (sym core_is) step;
+        same = made ∙ ap (λ (v : State _ _). record v { history = take begin now.history ++ Finish n ps ∷ []; core = core }) f.same
+            ∙ ap (λ h. record old { history = h ++ Finish n ps ∷ []; core = core }) f.history
+            ∙ ap (λ c. record old { history = old.history ++ Finish n ps ∷ []; core = c }) (sym core_is);
+      };
+    }
+
+let_go_owes : (s : Status) → owed_by (let_go s) ≡ 0
+let_go_owes Waiting = refl
+let_go_owes Taken = refl
+let_go_owes Finished = refl
+let_go_owes (Retired to tick taken) = refl
+
+taken_owes : (s : Status) → is_taken s ≡ true → owed_by s ≡ 1
+taken_owes Waiting t = absurd (cc)
+taken_owes Taken t = refl
+taken_owes Finished t = absurd (cc)
+taken_owes (Retired to tick taken) t = ap (λ b. cond b 1 0) t
+
+-- A taken entry owes an event, and leaves the budget room for one more that is finished.
+pub taken_room : {I : Type 0} {r : Rules I} {roots : List I} {budget : ℕ} {history : List Event} {c : Core I} {due n : ℕ} → Sound r roots budget history c due → TakenEntry n c.entries
+    → (0 < due) × (c.finished < budget)
+taken_room {c = c} {due = due} {n = n} s t =
+    let within = in_budget s in
+    let room = s.room in
+    let gone : Entry _ = record t.entry { status = Finished } in
+    let one : weight t.entry ≡ 1 = ap (λ b. cond b 1 0) t.taken in
+    let count = taken_set c.entries n t.entry gone t.stands in
+    let owes = taken_owes t.entry.status t.taken in
+    let change = owed_set c.entries n t.entry gone t.stands in
+    (omega arith, omega arith)
+
+pub taken_clip : {I : Type 0} (b n : ℕ) (es fs : List (Entry I)) → fs ≡ map (clip_entry b) es → TakenEntry n es → TakenEntry n fs
+taken_clip b n es fs is t = subst (λ w. TakenEntry n w) (sym is)
+    (record { entry = clip_entry b t.entry; stands = stands_map (clip_entry b) t.stands; taken = clip_taken b t.entry.status ∙ t.taken })
+
+pub sound_close : {F I : Type 0} {r : Rules I} {s : State F I} {start n due : ℕ} {places : List Placed} {events : List Event} {es fs : List (Entry I)} (now : ℕ)
+    → Sound r s.roots s.budget s.history s.core due → Closing r s start n places → fs ≡ map (clip_entry start) s.core.entries
+    → ((e : Entry I) → Stands fs n e → es ≡ set fs n (record e { status = let_go e.status }))
+    → events ≡ take start s.history ++ Finish n places ∷ [] → now + 1 ≡ due
+    → Sound r s.roots s.budget events (record s.core { entries = es; finished = s.core.finished + 1 }) now
+sound_close {r = r} {s = s} {start = start} {n = n} {due = due} {places = places} {events = events} {es = es} {fs = fs} now sound c made is same q =
+    let clips = map (clip_entry start) s.core.entries in
+    let e = clip_entry start c.taken.entry in
+    let stands = stands_map (clip_entry start) c.taken.stands in
+    let turned : Entry _ = record e { status = let_go e.status } in
+    let set_is : es ≡ set clips n turned = is e (subst (λ w. Stands w n e) (sym made) stands) ∙ ap (λ w. set w n turned) made in
+    let core : Core _ = record s.core { entries = set clips n turned; finished = s.core.finished + 1 } in
+    let settles = subst (λ k. Settles r k n 0 c.children places c.before (clipped start s.core)) (sym c.start_is) c.settles in
+    let step : Step r s.roots s.budget (take start s.history) c.before (Finish n places) core =
+    finish n places c.children (clipped start s.core) e c.expanding settles stands in
+    let room = sound.room in
+    let few = sound.few in
+    let owes = owed_clip start s.core.entries in
+    let one : owed_by e.status ≡ 1 = clip_owed start c.taken.entry.status ∙ taken_owes c.taken.entry.status c.taken.taken in
+    let none = let_go_owes e.status in
+    let change = owed_set clips n e turned stands in
+    let many = length-set clips n turned in
+    let long = length-map s.core.entries (clip_entry start) in
+    subst (λ w. Sound r s.roots s.budget events (record s.core { entries = w; finished = s.core.finished + 1 }) now) (sym set_is) (record {
+      after = subst (λ h. After r s.roots s.budget h core) (sym same) (more (take start s.history) c.before (Finish n places) core c.after step);
+      room = omega arith;
+      few = omega arith;
+    })
+
+pub closed_is : {F I : Type 0} {s t : State F I} (start n : ℕ) (places : List Placed) {events : List Event} {es fs : List (Entry I)} (e : Entry I) → s ≡ t → fs ≡ map (clip_entry start) s.core.entries
+    → ((e : Entry I) → Stands fs n e → es ≡ set fs n (record e { status = let_go e.status })) → events ≡ take start s.history ++ Finish n places ∷ [] → Stands t.core.entries n e
+    → record s { history = events; core = record s.core { entries = es; finished = s.core.finished + 1 } } ≡ closed t start n places e
+closed_is {s = s} start n places {events = events} {es = es} {fs = fs} e here made is same stands =
+    let back = subst (λ (v : State _ _). Stands v.core.entries n e) (sym here) stands in
+    let clip = clip_entry start e in
+    let turned : Entry _ = record clip { status = let_go clip.status } in
+    let set_is : es ≡ set (map (clip_entry start) s.core.entries) n turned =
+    is clip (subst (λ w. Stands w n clip) (sym made) (stands_map (clip_entry start) back)) ∙ ap (λ w. set w n turned) made in
+    ap (λ h. record s { history = h; core = record s.core { entries = es; finished = s.core.finished + 1 } }) same
+    ∙ ap (λ w. record s { history = take start s.history ++ Finish n places ∷ []; core = record s.core { entries = w; finished = s.core.finished + 1 } }) set_is
+    ∙ ap (λ (v : State _ _). closed v start n places e) here
+
+pub settle_by : {F I : Type 0} (r : Rules I) (n k : ℕ) (x : I) (s t : State F I) (result : Result Placed StoreFail)
+    → IfOk result (λ p. Next r s (Insert n k p) t) → IfOk result (λ p. (p ≡ place_of r x s.core) × (t.core ≡ placed r (length s.history) x (Child n k) p s.core))
+    → IfOk result (λ p. Settled r n k x s p t)
+settle_by r n k x s t (Ok p) step made = inserted p t made.0 step made.1
+settle_by r n k x s t (Err e) step made = _
+
+pub always_err : {X E : Type 0} (result : Result X E) {P : Type 0} → P → OnErr result P
+always_err (Ok x) p = _
+always_err (Err e) p = p
+
+pub inserts_settled : {F I : Type 0} (rules : F → Rules I) {n k : ℕ} {x : I} {old now next : State F I} {p : Placed} → Settled (rules now.rules) n k x now p next → Inserts rules n old now → Inserts rules n old next
+inserts_settled rules (folded into cover) before = before
+inserts_settled rules {k = k} {now = now} (inserted p next is step after) before = one_more now next k p before step
+
+pub take_stands : {X : Type 0} (xs : List X) (k : ℕ) (x : X) → Stands xs k x → take (suc k) xs ≡ take k xs ++ x ∷ []
+take_stands [] k x s = absurd (let q = s.is in cc)
+take_stands (y ∷ xs) zero x s = let q = s.is in let same : y ≡ x = cc in ap (λ w. w ∷ []) same
+take_stands (y ∷ xs) (suc k) x s = ap (λ w. y ∷ w) (take_stands xs k x (record { is = s.is }))
+
+pub take_whole : {X : Type 0} (xs : List X) (k : ℕ) → length xs ≤ k → take k xs ≡ xs
+take_whole [] zero h = refl
+take_whole [] (suc k) h = refl
+take_whole (x ∷ xs) zero h = absurd (omega arith)
+take_whole (x ∷ xs) (suc k) h = ap (λ w. x ∷ w) (take_whole xs k (omega arith))
+
+pub length_taken : {X : Type 0} (xs : List X) (k : ℕ) → k < length xs → k ≡ length (take k xs)
+length_taken [] k h = absurd (omega arith)
+length_taken (x ∷ xs) zero h = refl
+length_taken (x ∷ xs) (suc k) h = ap suc (length_taken xs k (omega arith))
+
+pub finishing_taken : {F I : Type 0} {rules : F → Rules I} {old now next : State F I} {n : ℕ} {children : List I} {ps qs : List Placed} {k : ℕ} {x : I} {p : Placed}
+    → Settled (rules now.rules) n k x now p next → Finishing rules old now n children (take k children) ps → Stands children k x → qs ≡ ps ++ p ∷ []
+    → Finishing rules old next n children (take (k + 1) children) qs
+finishing_taken {rules = rules} {old = old} {next = next} {n = n} {children = children} {ps = ps} {qs = qs} {k = k} {x = x} {p = p} s f at pushed =
+    let within = stands_within at in
+    let suc_is : suc k ≡ k + 1 = omega arith in
+    let took : take (k + 1) children ≡ take k children ++ x ∷ [] = ap (λ m. take m children) (sym suc_is) ∙ take_stands children k x at in
+    subst (λ w. Finishing rules old next n children w qs) (sym took)
+    (subst (λ w. Finishing rules old next n children (take k children ++ x ∷ []) w) (sym pushed) (finishing_next s f (length_taken children k within)))

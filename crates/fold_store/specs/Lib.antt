@@ -1,0 +1,5 @@
+pub mod Journal
+pub mod Ladder
+pub mod Store
+pub mod Table
+pub mod Work
