@@ -1,5 +1,5 @@
 -- Ticks that are brought down to a bound: nothing else changes.
-use Rattle.std.proofs.Common.{◌≡◌, ℕ, zero, suc, ◌+◌, ◌<◌, ◌≤◌, Bool, true, false, ◌&&◌, cond, min, List, [], ◌∷◌, ◌++◌, length, map, set, take, None, Some, refl, ap, sym, ◌∙◌, subst, arith, length-append, length-set}
+use Rattle.std.proofs.Common.{◌≡◌, ℕ, zero, suc, ◌+◌, ◌≤◌, Bool, true, false, ◌&&◌, cond, min, List, [], ◌∷◌, ◌++◌, length, map, take, Some, refl, ap, sym, ◌∙◌, arith}
 use Rattle.std.proofs.lemmas.List.{length-map}
 use Rattle.std.proofs.lemmas.List.Sums.{sum_by-cons}
 use Rattle.std.specs.List.{position_from}
@@ -9,10 +9,10 @@ use Rattle.fold_core.specs.declared.event.Origin.{Origin}
 use Rattle.fold_core.specs.declared.event.Status.{Status}
 use Rattle.fold_core.specs.declared.event.Status.TheVariants.{Waiting, Taken, Finished, Retired}
 use Rattle.fold_core.specs.Rules.{Rules}
-use Rattle.fold_core.specs.Machine.{Entry, Core, Stands, is_live, is_waiting, is_taken, LiveCover, least_cover, overtaken, first_found, kept, placed, Accepts}
+use Rattle.fold_core.specs.Machine.{Entry, Core, Stands, is_live, is_waiting, is_taken, least_cover, overtaken, first_found, placed, Accepts}
 use Rattle.fold_core.proofs.Places.{stands_map, stands_unmap}
 use Rattle.fold_core.proofs.Counting.{taken_map}
-use Rattle.fold_store.specs.Table.{numbers_where, live_numbers, NoneWaits, Indexed, clip_status, clip_entry, TicksWithin}
+use Rattle.fold_store.specs.Table.{Indexed, clip_status, clip_entry, TicksWithin}
 use Rattle.fold_store.specs.Store.{owed_by, owed, clipped}
 use Rattle.fold_store.proofs.Numbers.{numbers_map}
 

@@ -1,5 +1,5 @@
 -- Each call's event is a step of the machine, and there is room for it.
-use Rattle.std.proofs.Common.{◌≡◌, ◌⊎◌, inl, inr, ℕ, zero, suc, ◌+◌, ◌-◌, ◌<◌, ◌≤◌, ◌↔◌, Bool, true, false, ◌&&◌, cond, List, [], ◌∷◌, ◌++◌, length, map, set, Option, None, Some, IsSome, IsTrue, Result, Ok, Err, slice_get, refl, ap, sym, ◌∙◌, subst, arith, length-append, length-set}
+use Rattle.std.proofs.Common.{◌≡◌, ℕ, zero, suc, ◌+◌, ◌<◌, ◌≤◌, ◌↔◌, Bool, true, false, ◌&&◌, cond, List, [], ◌∷◌, ◌++◌, length, map, set, Option, None, Some, IsSome, IsTrue, Ok, refl, ap, sym, ◌∙◌, subst, arith, length-append, length-set}
 use Rattle.std.proofs.lemmas.List.{length-map}
 use Rattle.std.proofs.lemmas.List.Sums.{sum_by-cons, sum_by_push, count_by-le-length}
 use Rattle.fold_core.specs.declared.error.Large.{Large}
@@ -10,12 +10,12 @@ use Rattle.fold_core.specs.declared.event.Origin.TheVariants.{Root as FromRoot, 
 use Rattle.fold_core.specs.declared.event.Status.{Status}
 use Rattle.fold_core.specs.declared.event.Status.TheVariants.{Waiting, Taken, Finished, Retired}
 use Rattle.fold_core.specs.declared.event.Event.{Event}
-use Rattle.fold_core.specs.declared.event.Event.TheVariants.{Root, Take, Insert, Finish, Halt, Reset}
+use Rattle.fold_core.specs.declared.event.Event.TheVariants.{Take, Halt, Reset}
 use Rattle.fold_core.specs.Rules.{Rules}
-use Rattle.fold_core.specs.Machine.{Entry, Core, Stands, empty, is_live, is_waiting, is_taken, taken_count, least_waiting, least_cover, overtaken, first_found, kept, placed, place_of, place_at, Expanding, Overflowing, NextRoot, MayTake, let_go, put_back, put_back_entry, Step, root, take, insert, finish, halt, reset, After, begin, more}
-use Rattle.fold_core.proofs.Places.{stands_one, stands_within, position_some}
-use Rattle.fold_core.proofs.Counting.{counts_after, counted_after}
-use Rattle.fold_core.proofs.Keeping.{Outcome, was_retired, stays, goes, outcome, fresh}
+use Rattle.fold_core.specs.Machine.{Entry, Core, Stands, is_live, is_waiting, is_taken, taken_count, least_waiting, least_cover, overtaken, first_found, kept, placed, place_of, place_at, Overflowing, MayTake, put_back, put_back_entry, Step, root, take, insert, halt, reset, After, begin, more}
+use Rattle.fold_core.proofs.Places.{position_some}
+use Rattle.fold_core.proofs.Counting.{counted_after}
+use Rattle.fold_core.proofs.Keeping.{fresh}
 use Rattle.fold_store.specs.Table.{most_entries}
 use Rattle.fold_store.specs.Work.{Expansion}
 use Rattle.fold_store.specs.Store.{State, Next, owed_by, owed, owed_halt, Sound, event_of, ChildOf, MayPlace, IsFor, GoesOn}

@@ -1,8 +1,8 @@
 -- A finish: the inserts that it made on the way become one event.
-use Rattle.std.proofs.Common.{◌≡◌, ℕ, zero, suc, ◌+◌, ◌-◌, ◌<◌, ◌≤◌, ◌↔◌, Bool, true, false, cond, List, [], ◌∷◌, ◌++◌, length, map, set, take, get_or, None, Some, IsTrue, Result, Ok, Err, IfOk, OnErr, slice_get, refl, ap, sym, ◌∙◌, subst, arith, length-append, length-set, length-take}
+use Rattle.std.proofs.Common.{◌≡◌, ℕ, zero, suc, ◌+◌, ◌<◌, ◌≤◌, true, cond, List, [], ◌∷◌, ◌++◌, length, map, set, take, Result, Ok, Err, IfOk, OnErr, refl, ap, sym, ◌∙◌, subst, arith, length-append, length-set}
 use Rattle.std.proofs.lemmas.List.{length-map, take-append-le}
 use Rattle.fold_core.specs.declared.event.Placed.{Placed}
-use Rattle.fold_core.specs.declared.event.Placed.TheVariants.{Kept, Folded}
+use Rattle.fold_core.specs.declared.event.Placed.TheVariants.{Folded}
 use Rattle.fold_core.specs.declared.event.Origin.{Origin}
 use Rattle.fold_core.specs.declared.event.Origin.TheVariants.{Child}
 use Rattle.fold_core.specs.declared.event.Status.{Status}
@@ -10,15 +10,15 @@ use Rattle.fold_core.specs.declared.event.Status.TheVariants.{Waiting, Taken, Fi
 use Rattle.fold_core.specs.declared.event.Event.{Event}
 use Rattle.fold_core.specs.declared.event.Event.TheVariants.{Insert, Finish}
 use Rattle.fold_core.specs.Rules.{Rules, Lawful}
-use Rattle.fold_core.specs.Machine.{Entry, Core, Stands, is_live, is_taken, taken_count, LiveCover, kept, placed, place_of, Accepts, Settles, settled, settles, Expanding, let_go, Step, finish, After, more}
-use Rattle.fold_core.proofs.Places.{stands_one, stands_within, stands_map, stands_set_same}
-use Rattle.fold_core.proofs.Keeping.{Outcome, was_retired, stays, goes, outcome, outcome_item, kept_old}
+use Rattle.fold_core.specs.Machine.{Entry, Core, Stands, is_taken, LiveCover, kept, placed, place_of, Accepts, Settles, settled, settles, Expanding, let_go, Step, finish, After, more}
+use Rattle.fold_core.proofs.Places.{stands_within, stands_map}
+use Rattle.fold_core.proofs.Keeping.{Outcome, was_retired, stays, goes, outcome, kept_old}
 use Rattle.fold_core.proofs.Stepping.{sound_after, accepts_place, placed_keeps}
 use Rattle.fold_core.proofs.Counting.{weight, taken_set}
-use Rattle.fold_store.specs.Table.{most_entries, TakenEntry, clip_status, clip_entry}
+use Rattle.fold_store.specs.Table.{TakenEntry, clip_status, clip_entry}
 use Rattle.fold_store.specs.declared.error.StoreFail.{StoreFail}
 use Rattle.fold_store.specs.Work.{Expansion}
-use Rattle.fold_store.specs.Store.{State, Next, owed_by, owed, owed_halt, Sound, ChildOf, IsFor, Inserts, nothing, one_more, Settled, folded, inserted, clipped, Closing, closed, Finishes}
+use Rattle.fold_store.specs.Store.{State, Next, owed_by, Sound, ChildOf, IsFor, Inserts, nothing, one_more, Settled, folded, inserted, clipped, Closing, closed, Finishes}
 use Rattle.fold_store.proofs.Clipping.{clip_taken, clip_owed, owed_clip, clipped_placed, accepts_clip, clip_none}
 use Rattle.fold_store.proofs.Events.{in_budget, owed_set}
 

@@ -1,5 +1,5 @@
 -- What is kept beside the entries stays right.
-use Rattle.std.proofs.Common.{◌≡◌, ℕ, zero, suc, ◌+◌, ◌<◌, ◌≤◌, ◌-◌, ◌⊎◌, inl, inr, Bool, true, false, ◌&&◌, not, cond, List, [], ◌∷◌, ◌++◌, length, map, set, None, Some, Result, Ok, Err, OnOk, slice_get, refl, ap, sym, ◌∙◌, subst, arith, length-append, length-set}
+use Rattle.std.proofs.Common.{◌≡◌, ℕ, zero, suc, ◌+◌, ◌<◌, ◌≤◌, ◌-◌, inl, inr, Bool, true, false, ◌&&◌, not, cond, List, [], ◌∷◌, ◌++◌, length, map, set, None, Some, Result, Ok, Err, OnOk, refl, ap, sym, ◌∙◌, subst, arith, length-append, length-set}
 use Rattle.std.proofs.lemmas.List.{length-map}
 use Rattle.std.specs.List.{filter, position_from}
 use Rattle.std.proofs.lemmas.List.Sums.{sum_by_push}
@@ -7,8 +7,8 @@ use Rattle.fold_core.specs.declared.event.Origin.{Origin}
 use Rattle.fold_core.specs.declared.event.Status.{Status}
 use Rattle.fold_core.specs.declared.event.Status.TheVariants.{Waiting, Taken, Finished, Retired}
 use Rattle.fold_core.specs.Rules.{Rules}
-use Rattle.fold_core.specs.Machine.{Entry, Stands, is_live, is_waiting, is_taken, taken_count, least_waiting, least_cover, overtaken, let_go, put_back, put_back_entry}
-use Rattle.fold_core.proofs.Places.{stands_one, stands_within, stands_append, stands_unmap, stands_unset, position_some}
+use Rattle.fold_core.specs.Machine.{Entry, Stands, is_live, is_waiting, is_taken, least_waiting, least_cover, overtaken, let_go, put_back, put_back_entry}
+use Rattle.fold_core.proofs.Places.{stands_within, stands_append, stands_unmap, stands_unset, position_some}
 use Rattle.fold_core.proofs.Counting.{weight, taken_map, taken_none, taken_set}
 use Rattle.fold_store.specs.Table.{most_entries, numbers_where, live_numbers, passes, covers_at, covered_at, first_passing, retired_by, retire_each, NoneWaits, Indexed, TakenEntry, SplitsLive, with_kept}
 use Rattle.fold_store.proofs.Numbers.{stands_at, filter_numbers, first_numbers, retire_numbers, numbers_append, numbers_map, numbers_set}

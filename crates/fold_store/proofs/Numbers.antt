@@ -1,7 +1,7 @@
 -- The lists of numbers that stand for entries: what a walk over them finds.
-use Rattle.std.proofs.Common.{◌≡◌, ℕ, zero, suc, ◌+◌, ◌<◌, ◌≤◌, Bool, true, false, ◌&&◌, not, cond, List, [], ◌∷◌, ◌++◌, length, map, set, take, drop, get_or, Option, None, Some, slice_get, refl, ap, sym, ◌∙◌, subst, arith, drop-cons, add-one, append_assoc, length-append}
+use Rattle.std.proofs.Common.{◌≡◌, ℕ, zero, suc, ◌+◌, ◌<◌, Bool, true, false, ◌&&◌, cond, List, [], ◌∷◌, ◌++◌, length, map, set, take, drop, get_or, Some, slice_get, refl, ap, sym, ◌∙◌, subst, arith, drop-cons, add-one, append_assoc, length-append}
 use Rattle.std.specs.List.{filter, position_from}
-use Rattle.fold_store.specs.Table.{numbers_where, live_numbers, passes, first_passing, retired_by, retire_option, retire_each}
+use Rattle.fold_store.specs.Table.{numbers_where, passes, first_passing, retired_by, retire_option, retire_each}
 use Rattle.fold_core.specs.Machine.{Entry, Stands}
 
 drop_next : {X : Type 0} (xs : List X) (k : ℕ) (d : X) → k < length xs → drop k xs ≡ get_or xs k d ∷ drop (k + 1) xs

@@ -1,9 +1,9 @@
 -- A history begins with the events that placed the roots.
-use Rattle.std.proofs.Common.{◌≡◌, ℕ, zero, suc, ◌+◌, ◌<◌, ◌≤◌, Result, Ok, Err, OnOk, OnErr, cond, List, [], ◌∷◌, ◌++◌, length, refl, ap, sym, ◌∙◌, subst, arith, length-append, append-nil, append_assoc}
+use Rattle.std.proofs.Common.{◌≡◌, ℕ, suc, ◌+◌, ◌≤◌, Result, Ok, Err, OnOk, OnErr, cond, List, [], ◌∷◌, ◌++◌, length, refl, ap, sym, ◌∙◌, subst, arith, length-append, append-nil, append_assoc}
 use Rattle.std.proofs.lemmas.List.Sums.{sum_by-cons, sum_by-append}
 use Rattle.fold_core.specs.declared.event.Placed.{Placed}
 use Rattle.fold_core.specs.declared.event.Event.{Event}
-use Rattle.fold_core.specs.declared.event.Event.TheVariants.{Root, Take, Insert, Finish, Halt, Reset}
+use Rattle.fold_core.specs.declared.event.Event.TheVariants.{Root}
 use Rattle.fold_core.specs.Rules.{Rules}
 use Rattle.fold_core.specs.Machine.{Core, Stands, NextRoot, is_root, roots_placed, Step, root, take, insert, finish, halt, reset, After, begin, more}
 use Rattle.fold_core.proofs.Places.{stands_within}

@@ -1,11 +1,11 @@
 -- Walks over the live entries and along the pointers.
-use Rattle.std.proofs.Common.{◌≡◌, ℕ, zero, suc, ◌+◌, ◌<◌, ◌↔◌, Bool, true, false, ◌&&◌, not, List, length, Option, None, Some, IsTrue, slice_get, refl, ap, sym, ◌∙◌, subst, arith}
+use Rattle.std.proofs.Common.{◌≡◌, ℕ, ◌↔◌, Bool, true, false, ◌&&◌, not, List, Option, None, Some, IsTrue, refl, ap, sym, ◌∙◌, subst}
 use Rattle.std.specs.List.{position_from}
 use Rattle.fold_core.specs.declared.event.Status.{Status}
 use Rattle.fold_core.specs.declared.event.Status.TheVariants.{Waiting, Taken, Finished, Retired}
 use Rattle.fold_core.specs.Rules.{Rules, Lawful}
-use Rattle.fold_core.specs.Machine.{Entry, Core, Stands, is_live, LiveCover}
-use Rattle.fold_core.specs.Facts.{Pointers, Points, Leads, ends, follows}
+use Rattle.fold_core.specs.Machine.{Entry, Stands, is_live, LiveCover}
+use Rattle.fold_core.specs.Facts.{Pointers, Leads, ends, follows}
 use Rattle.fold_core.proofs.Places.{stands_one, stands_within, position_some, position_none}
 use Rattle.fold_core.proofs.Histories.{chains_of}
 use Rattle.fold_store.specs.Table.{live_numbers, first_passing, is_finished, unfinished_at, AllFinished, PointsForward}

@@ -1,5 +1,5 @@
 -- What the calls on the store say: each is one event of the machine.
-use Rattle.std.specs.Prelude.{◌≡◌, ◌≢◌, ◌⊎◌, ℕ, ◌+◌, ◌<◌, ◌≤◌, Bool, true, cond, List, [], ◌∷◌, ◌++◌, length, Option, None, Some, IsSome, Ok, slice_get, slice_set, map, take}
+use Rattle.std.specs.Prelude.{◌≡◌, ◌≢◌, ◌⊎◌, ℕ, ◌+◌, ◌≤◌, true, cond, List, [], ◌∷◌, ◌++◌, length, Option, None, Some, IsSome, slice_get, slice_set, map, take}
 use Rattle.std.specs.List.{sum_by}
 use Rattle.std.specs.Option.{option_map}
 use Rattle.fold_core.specs.declared.error.Large.{Large}
@@ -12,7 +12,7 @@ use Rattle.fold_core.specs.declared.event.Status.TheVariants.{Waiting, Taken as 
 use Rattle.fold_core.specs.declared.event.Event.{Event}
 use Rattle.fold_core.specs.declared.event.Event.TheVariants.{Root, Take, Insert, Finish}
 use Rattle.fold_core.specs.Rules.{Rules}
-use Rattle.fold_core.specs.Machine.{Entry, Core, Stands, is_taken, least_cover, least_waiting, taken_count, roots_placed, NextRoot, Expanding, Settles, LiveCover, let_go, placed, place_of, Step, After}
+use Rattle.fold_core.specs.Machine.{Entry, Core, Stands, is_taken, least_cover, least_waiting, taken_count, NextRoot, Expanding, Settles, LiveCover, let_go, placed, place_of, Step, After}
 use Rattle.fold_store.specs.declared.answer.Taken.{Taken}
 use Rattle.fold_store.specs.declared.answer.Taken.TheVariants.{Got, Nothing, Spent, Stopped}
 use Rattle.fold_store.specs.declared.answer.Verdict.{Verdict}
@@ -116,12 +116,12 @@ insert_fail Full = InsertFull
 insert_fail NoMemory = InsertNoMemory
 
 -- How the search stands: the first of these that holds.
-abbrev pub Stands_so : {I : Type 0} → ℕ → Core I → Verdict → Type 0
-Stands_so budget c (Found n) = c.found ≡ Some n
-Stands_so budget c (Halted why) = (c.found ≡ None) × (c.halted ≡ Some why)
-Stands_so budget c Done = GoesOn c × AllFinished c.entries
-Stands_so budget c Open = GoesOn c × (AllFinished c.entries → ⊥) × (c.finished ≡ budget)
-Stands_so budget c Running = GoesOn c × (AllFinished c.entries → ⊥) × (c.finished ≢ budget)
+abbrev pub HasVerdict : {I : Type 0} → ℕ → Core I → Verdict → Type 0
+HasVerdict budget c (Found n) = c.found ≡ Some n
+HasVerdict budget c (Halted why) = (c.found ≡ None) × (c.halted ≡ Some why)
+HasVerdict budget c Done = GoesOn c × AllFinished c.entries
+HasVerdict budget c Open = GoesOn c × (AllFinished c.entries → ⊥) × (c.finished ≡ budget)
+HasVerdict budget c Running = GoesOn c × (AllFinished c.entries → ⊥) × (c.finished ≢ budget)
 
 -- The state with each tick brought down to the bound: what was retired since then was retired by
 -- the event with the tick of the bound.

@@ -5,7 +5,7 @@ ghost use Rattle.fold_core.specs.declared.event.Event.TheVariants.{Insert, Halt,
 ghost use Rattle.fold_core.specs.Machine.{Entry, Core, Stands, LiveCover, Overflowing, empty, first_found, kept, placed, place_of, Step, After};
 ghost use Rattle.fold_core.specs.Facts.{Leads};
 ghost use Rattle.fold_store.specs.Table.{most_entries, clip_entry, TicksWithin};
-ghost use Rattle.fold_store.specs.Store.{State, Next, event_of, MayPlace, NoRoom, Takes, item_at, IsFor, NoRoomFor, NoRoomForOne, Stands_so, ChildOf, Settled, Closing, closed, Finishes, Inserts, RootsAlone, PlacesRoot, OpensFull};
+ghost use Rattle.fold_store.specs.Store.{State, Next, event_of, MayPlace, NoRoom, Takes, item_at, IsFor, NoRoomFor, NoRoomForOne, HasVerdict, ChildOf, Settled, Closing, closed, Finishes, Inserts, RootsAlone, PlacesRoot, OpensFull};
 
 use crate::answer::{Places, Taken, Verdict};
 use crate::error::{InsertFail, StoreFail};
@@ -414,7 +414,7 @@ impl<F: Folding> Ledger<F> {
 
     /// How the search stands.
     pub(crate) fn verdict(&self) -> Verdict
-        ensures { Stands_so self.now.budget self.now.core result }
+        ensures { HasVerdict self.now.budget self.now.core result }
     {
         if let Some(id) = self.found {
             return Verdict::Found(id);

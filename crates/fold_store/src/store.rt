@@ -5,7 +5,7 @@ ghost use Rattle.fold_core.specs.declared.event.Event.TheVariants.{Insert, Halt,
 ghost use Rattle.fold_core.specs.Machine.{Entry, Stands, LiveCover, Overflowing, After, roots_placed};
 ghost use Rattle.fold_core.specs.Facts.{Leads};
 ghost use Rattle.fold_store.specs.Table.{most_entries, live_numbers};
-ghost use Rattle.fold_store.specs.Store.{State, Next, Takes, item_at, IsFor, NoRoomFor, NoRoomForOne, Stands_so, Finishes, Inserts, Opens, OpensFull, Opened};
+ghost use Rattle.fold_store.specs.Store.{State, Next, Takes, item_at, IsFor, NoRoomFor, NoRoomForOne, HasVerdict, Finishes, Inserts, Opens, OpensFull, Opened};
 
 use crate::answer::{Places, Taken, Verdict};
 use crate::error::{InsertFail, StoreFail};
@@ -175,7 +175,7 @@ impl<F: Folding> Store<F> {
 
     /// How the search stands.
     pub fn verdict(&self) -> Verdict
-        ensures { Stands_so self.now.budget self.now.core result }
+        ensures { HasVerdict self.now.budget self.now.core result }
     {
         self.ledger.verdict()
     }

@@ -1,4 +1,4 @@
-use Rattle.std.proofs.Common.{◌≡◌, length, ◌∙◌}
+use Rattle.std.proofs.Common.{length, ◌∙◌}
 use Rattle.fold_store.proofs.Indexing.{splits_by, keeps_by, on_ok}
 use Rattle.fold_store.proofs.table.keep.Goals as goal
 

@@ -1,4 +1,4 @@
-use Rattle.std.proofs.Common.{List, arith, rules, ◌≡◌, length, refl, sym, subst}
+use Rattle.std.proofs.Common.{List, rules, ◌≡◌, length, sym, subst}
 use Rattle.fold_core.specs.Machine.{Entry}
 use Rattle.fold_store.specs.Table.{SplitsLive}
 use Rattle.fold_store.proofs.Indexing.{indexed_keep}

@@ -1,4 +1,4 @@
-use Rattle.std.proofs.Common.{rules, ◌≡◌, ap, ◌∙◌}
+use Rattle.std.proofs.Common.{◌≡◌, ap, ◌∙◌}
 use Rattle.fold_core.specs.Machine.{least_cover}
 use Rattle.fold_store.specs.Table.{first_passing, covers_at}
 use Rattle.fold_store.proofs.Indexing.{least_cover_is}

@@ -1,4 +1,4 @@
-use Rattle.std.proofs.Common.{subst, sym}
+use Rattle.std.proofs.Common.{subst}
 use Rattle.fold_core.specs.Machine.{After}
 use Rattle.fold_core.specs.Facts.{Leads}
 use Rattle.fold_core.proofs.Soundness.{pointers_of}

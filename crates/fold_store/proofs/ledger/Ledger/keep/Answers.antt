@@ -1,4 +1,4 @@
-use Rattle.std.proofs.Common.{rules, arith, ◌≡◌, ◌<◌, ◌++◌, ◌∷◌, [], length, sym, subst, ap, ◌∙◌}
+use Rattle.std.proofs.Common.{◌<◌, ◌++◌, ◌∷◌, [], length, sym, subst, ap, ◌∙◌}
 use Rattle.fold_core.specs.Machine.{Step, kept}
 use Rattle.fold_store.specs.Journal.{Written}
 use Rattle.fold_store.specs.Table.{most_entries}

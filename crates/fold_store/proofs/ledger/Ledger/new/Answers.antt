@@ -1,5 +1,4 @@
-use Rattle.std.proofs.Common.{rules, arith, ◌≡◌, ◌≤◌, [], ap}
-use Rattle.fold_store.specs.Journal.{Written}
+use Rattle.std.proofs.Common.{rules, arith, ◌≡◌, []}
 use Rattle.fold_store.proofs.Events.{sound_begin}
 use Rattle.fold_store.proofs.ledger.Ledger.new.Goals as goal
 

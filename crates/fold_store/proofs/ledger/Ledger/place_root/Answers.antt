@@ -1,4 +1,4 @@
-use Rattle.std.proofs.Common.{rules, ◌≡◌, ◌<◌, length, ap, sym, ◌∙◌, subst}
+use Rattle.std.proofs.Common.{rules, ◌<◌, length, ap, sym, ◌∙◌, subst}
 use Rattle.std.specs.Result.{IsErrOf}
 use Rattle.fold_core.specs.Machine.{Stands, After}
 use Rattle.fold_store.specs.declared.error.StoreFail.TheVariants.{Full}

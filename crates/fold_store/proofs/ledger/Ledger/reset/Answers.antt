@@ -1,4 +1,4 @@
-use Rattle.std.proofs.Common.{rules, arith, ◌≡◌, ◌++◌, ◌∷◌, [], ap, ◌∙◌}
+use Rattle.std.proofs.Common.{◌++◌, ◌∷◌, [], ap, ◌∙◌}
 use Rattle.fold_core.specs.declared.event.Event.TheVariants.{Reset}
 use Rattle.fold_store.specs.Journal.{Written}
 use Rattle.fold_store.specs.Store.{State}

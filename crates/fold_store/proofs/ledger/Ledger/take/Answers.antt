@@ -1,8 +1,8 @@
-use Rattle.std.proofs.Common.{rules, arith, ◌≡◌, ◌+◌, ◌<◌, Some, None, IsSome, set, ap, ◌∙◌, sym, subst, List}
+use Rattle.std.proofs.Common.{rules, arith, ◌≡◌, ◌+◌, ◌<◌, Some, None, set, ap, ◌∙◌, subst, List}
 use Rattle.fold_core.specs.declared.event.Status.TheVariants.{Taken}
-use Rattle.fold_core.specs.Machine.{Entry, Core, Stands, taken_count, least_waiting}
-use Rattle.fold_store.specs.Store.{State, GoesOn}
-use Rattle.fold_store.proofs.Events.{in_budget, TakesAt, takes_at, sound_take, next_take, spent_is}
+use Rattle.fold_core.specs.Machine.{Entry, Stands, taken_count, least_waiting}
+use Rattle.fold_store.specs.Store.{State}
+use Rattle.fold_store.proofs.Events.{in_budget, takes_at, sound_take, next_take, spent_is}
 use Rattle.fold_store.proofs.ledger.Ledger.take.Goals as goal
 
 pub overflow_sub-left : goal.overflow_sub-left

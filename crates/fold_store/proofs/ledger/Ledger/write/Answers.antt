@@ -1,4 +1,4 @@
-use Rattle.std.proofs.Common.{◌≡◌, ◌++◌, ◌∷◌, [], ap, sym, ◌∙◌, subst}
+use Rattle.std.proofs.Common.{◌++◌, ◌∷◌, [], ap, sym, ◌∙◌, subst}
 use Rattle.fold_core.specs.Machine.{Step}
 use Rattle.fold_store.specs.Journal.{Written}
 use Rattle.fold_store.specs.Store.{State}

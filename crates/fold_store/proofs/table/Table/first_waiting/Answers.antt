@@ -1,6 +1,5 @@
-use Rattle.std.proofs.Common.{arith, List, true, ◌≡◌, ◌<◌, ◌≤◌, length, ap, ◌∙◌, subst}
-use Rattle.fold_core.specs.Machine.{Entry, Stands, is_waiting, least_waiting}
-use Rattle.fold_store.specs.Table.{NoneWaits}
+use Rattle.std.proofs.Common.{arith, ◌≡◌, ◌<◌, ◌≤◌, length, ap, ◌∙◌}
+use Rattle.fold_core.specs.Machine.{least_waiting}
 use Rattle.fold_store.proofs.Indexing.{waiting_first, waiting_none}
 use Rattle.fold_store.proofs.table.Table.first_waiting.Goals as goal
 use Rattle.fold_store.proofs.table.Table.first_waiting.Goals.{then-at-len, else-at-len}
