@@ -1,3 +1,5 @@
 pub mod Steps
 pub mod TableLemmas
 pub mod Lowers
+pub mod Climbs
+pub mod Grown

@@ -1,4 +1,4 @@
-use Rattle.std.specs.Prelude.{◌≡◌, ◌≢◌, ℕ, ◌+◌, ◌<◌, ◌≤◌, Bool, nat_eq, ◌||◌, List, Contains, All, ◌⊎◌}
+use Rattle.std.specs.Prelude.{◌≡◌, ◌≢◌, ℕ, ◌+◌, ◌<◌, ◌≤◌, Bool, nat_eq, nat_le, nat_lt, ◌||◌, ◌&&◌, List, [], ◌∷◌, Contains, All, ◌⊎◌}
 
 -- What an order of sorts is declared by: how many sorts are declared, which are numbered from 2,
 -- and pairs of a lower and an upper sort. Sort 0 is `Msg` and sort 1 is `Fresh`.
@@ -28,6 +28,18 @@ pub data IsBelow (o : Subsorts) : ℕ → ℕ → Type 0 where
 -- At or below: any number of steps up, none included.
 abbrev pub IsAtOrBelow : Subsorts → ℕ → ℕ → Type 0
 IsAtOrBelow o s t = (s ≡ t) ⊎ IsBelow o s t
+
+-- Whether a sort is at or below another, computed: one more pair puts what is at or below its
+-- lower sort below what is at or above its upper one (transitive closure one arrow at a time:
+-- Warshall 1962).
+abbrev pub climbs : ℕ → List (ℕ × ℕ) → ℕ → ℕ → Bool
+climbs declared [] s t = nat_eq s t || (nat_eq t 0 && nat_le 2 s && nat_lt s (declared + 2))
+climbs declared (p ∷ ps) s t =
+    climbs declared ps s t || (climbs declared ps s p.0 && climbs declared ps p.1 t)
+
+-- The same of an order.
+abbrev pub at_or_below : Subsorts → ℕ → ℕ → Bool
+at_or_below o s t = climbs o.declared o.pairs s t
 
 -- The least sort that is strictly below itself.
 pub record IsFirstInCycle (o : Subsorts) (s : ℕ) : Type 0 where

@@ -1,4 +1,4 @@
-use Rattle.std.specs.Prelude.{◌≡◌, ℕ, ◌+◌, ◌<◌, ◌≤◌, Option, None, Some, position, nat_eq, ◌||◌, ◌&&◌, Bool, true, false, List, [], ◌∷◌, ◌++◌, map, length, slice_index_or, ◌↔◌}
+use Rattle.std.specs.Prelude.{◌≡◌, ℕ, ◌+◌, ◌<◌, ◌≤◌, Option, None, Some, position, nat_eq, ◌||◌, ◌&&◌, Bool, true, false, List, [], ◌∷◌, ◌++◌, map, length, slice_index_or, slice_set, ◌↔◌}
 use Rattle.std.specs.declared.vec.Vec.{Vec}
 use Rattle.std.specs.declared.alloc.Global.{Global}
 use Rattle.npa_sorts.specs.Subsorts.{Subsorts, IsSort, IsBelow, AreSorts, names_fresh}
@@ -6,6 +6,10 @@ use Rattle.npa_sorts.specs.Subsorts.{Subsorts, IsSort, IsBelow, AreSorts, names_
 -- The order with one more pair.
 abbrev pub with_pair : Subsorts → ℕ → ℕ → Subsorts
 with_pair o lower upper = record { declared = o.declared; pairs = o.pairs ++ (lower, upper) ∷ [] }
+
+-- The order with one more declared sort.
+abbrev pub with_sort : Subsorts → Subsorts
+with_sort o = record { declared = o.declared + 1; pairs = o.pairs }
 
 -- The rows of a table as lists.
 abbrev pub rows_of : List (Vec Bool Global) → List (List Bool)
@@ -19,6 +23,11 @@ entry rows s t = slice_index_or (slice_index_or rows s []) t false
 abbrev pub raised_entry : List (List Bool) → ℕ → List Bool → ℕ → ℕ → Bool
 raised_entry rows lower above s t =
     entry rows s t || ((nat_eq s lower || entry rows s lower) && slice_index_or above t false)
+
+-- The rows with one more sort: no sort is below it, and it is below all that is at or above `Msg`.
+abbrev pub grown_rows : List (List Bool) → List (List Bool)
+grown_rows rows =
+    map (λ row. row ++ false ∷ []) rows ++ (slice_set (slice_index_or rows 0 []) 0 true ++ false ∷ []) ∷ []
 
 -- A table of as many rows as columns.
 pub record IsSquare (size : ℕ) (rows : List (List Bool)) : Type 0 where

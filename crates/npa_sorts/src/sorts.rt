@@ -1,10 +1,10 @@
-ghost use Rattle.std.specs.Prelude.{◌≡◌, ◌≢◌, ◌<◌, ◌≤◌, ◌+◌, ◌↔◌, ℕ, None, Some, IsTrue, Contains, IfOk, IsErrOf, position};
+ghost use Rattle.std.specs.Prelude.{◌≡◌, ◌≢◌, ◌<◌, ◌≤◌, ◌+◌, ◌↔◌, ℕ, None, Some, IsTrue, Contains, [], ◌∷◌, ◌++◌, false, IfOk, OnOk, OnErr, IsErrOf, position};
 ghost use Rattle.std.specs.Bool.{OnTrue, OnFalse};
 ghost use Rattle.std.specs.List.Sorted.{IsStrictlyIncreasing};
-ghost use Rattle.npa_sorts.specs.Subsorts.{subsorts, IsSort, AreSorts, IsBelow, IsAtOrBelow, IsFirstInCycle, IsMaximalLower, IsPassedBy, names_fresh};
+ghost use Rattle.npa_sorts.specs.Subsorts.{subsorts, at_or_below, IsSort, AreSorts, IsBelow, IsAtOrBelow, IsFirstInCycle, IsMaximalLower, IsPassedBy, names_fresh};
 
 use crate::error::{NoMemory, SortFail};
-use crate::table::{cell, close, first_in_cycle};
+use crate::table::{at_or_above, cell, close, first_in_cycle, grown, raise, start};
 use npa_list::List;
 use std::alloc::Global;
 use std::marker::Model;
@@ -71,6 +71,46 @@ impl Sorts {
         })
     }
 
+    /// The order without declared sorts: of `Msg` and `Fresh`, neither below the other.
+    pub fn built_in(alloc: Global) -> Result<Sorts, NoMemory>
+        ensures { IfOk result (λ s. s ≡ subsorts 0 []) }
+    {
+        Ok(Sorts {
+            declared: 0,
+            pairs: List::new(alloc),
+            below: start(alloc, 0)?,
+        })
+    }
+
+    /// Declares one more sort. Its number is the last one, and it is below `Msg`. Where memory is
+    /// wanting the order stays as it was.
+    pub fn declare(&mut self, alloc: Global) -> Result<(), NoMemory>
+        requires { self.old.declared < 65533 }
+        ensures ok { OnOk result (self.new ≡ subsorts (self.old.declared + 1) self.old.pairs) }
+        ensures err { OnErr result (self.new ≡ self.old) }
+    {
+        self.below = grown(alloc, &self.below)?;
+        self.declared += 1;
+        Ok(())
+    }
+
+    /// Puts a sort below another, which isn't at or below it yet. Where memory is wanting the
+    /// order stays as it was.
+    pub fn put_below(&mut self, alloc: Global, lower: u16, upper: u16) -> Result<(), NoMemory>
+        requires lower { IsSort self.old lower }
+        requires upper { IsSort self.old upper }
+        requires not_fresh { (lower ≢ FRESH) × (upper ≢ FRESH) }
+        requires acyclic { at_or_below self.old upper lower ≡ false }
+        ensures ok { OnOk result (self.new
+            ≡ subsorts self.old.declared (self.old.pairs ++ (lower, upper) ∷ [])) }
+        ensures err { OnErr result (self.new ≡ self.old) }
+    {
+        let above = at_or_above(alloc, &self.below[upper as usize], upper as usize)?;
+        self.pairs.push((lower, upper))?;
+        raise(&mut self.below, lower as usize, &above);
+        Ok(())
+    }
+
     /// How many sorts are declared.
     pub fn declared(&self) -> u16
         ensures value { result ≡ self.now.declared }
@@ -101,17 +141,26 @@ impl Sorts {
             → IsSort self.now s }
         ensures msg { (s : ℕ) → 2 ≤ s → IsSort self.now s → IsAtOrBelow self.now s MSG }
         ensures fresh { (s t : ℕ) → IsBelow self.now s t → (s ≢ FRESH) × (t ≢ FRESH) }
+        ensures decides { (s t : ℕ) → IsTrue (at_or_below self.now s t) ↔ IsAtOrBelow self.now s t }
     {
         let _below = &self.below;
     }
 
-    /// Whether the first sort is at or below the second.
+    /// Whether the first sort is at or below the second. A number that is no sort's is at or below
+    /// itself alone.
+    #[tactic(auto, using(crate::proofs::Climbs::same_at_or_below, crate::proofs::Climbs::below_decides))]
     pub fn le(&self, s: u16, t: u16) -> bool
-        requires first { IsSort self.now s }
-        requires second { IsSort self.now t }
-        ensures { IsTrue result ↔ IsAtOrBelow self.now s t }
+        ensures value { result ≡ at_or_below self.now s t }
+        ensures decides { IsTrue result ↔ IsAtOrBelow self.now s t }
     {
-        s == t || cell(&self.below, s as usize, t as usize)
+        s == t || self.is_below(s, t)
+    }
+
+    // Whether the first sort is strictly below the second.
+    fn is_below(&self, s: u16, t: u16) -> bool
+        ensures { IsTrue result ↔ IsBelow self.now s t }
+    {
+        s.max(t) < self.declared + 2 && cell(&self.below, s as usize, t as usize)
     }
 
     /// The maximal sorts that are at or below both, in ascending order.

@@ -1,6 +1,6 @@
-ghost use Rattle.std.specs.Prelude.{◌≡◌, ◌<◌, ◌≤◌, ◌+◌, ℕ, true, false, ◌||◌, ◌&&◌, [], length, replicate, slice_set, slice_index_or, IfOk, OnOk};
+ghost use Rattle.std.specs.Prelude.{◌≡◌, ◌<◌, ◌≤◌, ◌+◌, ℕ, true, false, ◌||◌, ◌&&◌, [], ◌∷◌, ◌++◌, length, replicate, slice_set, slice_index_or, IfOk, OnOk};
 ghost use Rattle.npa_sorts.specs.Subsorts.{Subsorts, subsorts, AreSorts};
-ghost use Rattle.npa_sorts.specs.Table.{entry, raised_entry, rows_of, with_pair, IsTable, IsSquare, IsFirstMarked};
+ghost use Rattle.npa_sorts.specs.Table.{entry, raised_entry, grown_rows, rows_of, with_pair, IsTable, IsSquare, IsFirstMarked};
 
 use crate::error::NoMemory;
 use crate::sorts::SortPair;
@@ -46,7 +46,7 @@ fn add_pair(
 }
 
 // The table of the order without pairs: declared sorts are below `Msg`.
-fn start(alloc: Global, declared: u16) -> Result<Vec<Vec<bool>>, NoMemory>
+pub(crate) fn start(alloc: Global, declared: u16) -> Result<Vec<Vec<bool>>, NoMemory>
     requires { declared ≤ 65533 }
     ensures { IfOk result (λ table. IsTable (subsorts declared []) (rows_of table.items)) }
 {
@@ -69,7 +69,7 @@ fn start_row(alloc: Global, size: usize, is_declared: bool) -> Result<Vec<bool>,
 }
 
 // The row of a sort with the sort itself: what is at or above it.
-fn at_or_above(alloc: Global, row: &[bool], sort: usize) -> Result<Vec<bool>, NoMemory>
+pub(crate) fn at_or_above(alloc: Global, row: &[bool], sort: usize) -> Result<Vec<bool>, NoMemory>
     requires { sort < length row.now }
     ensures { IfOk result (λ above. above.items ≡ slice_set row.now sort true) }
 {
@@ -78,8 +78,33 @@ fn at_or_above(alloc: Global, row: &[bool], sort: usize) -> Result<Vec<bool>, No
     Ok(above)
 }
 
+// The table with a row and a column for one more sort.
+pub(crate) fn grown(alloc: Global, table: &[Vec<bool>]) -> Result<Vec<Vec<bool>>, NoMemory>
+    requires square { IsSquare (length table.now) (rows_of table.now) }
+    requires some { 0 < length table.now }
+    ensures { IfOk result (λ grown. rows_of grown.items ≡ grown_rows (rows_of table.now)) }
+{
+    let mut grown = Vec::with_capacity(alloc, table.len() + 1)?;
+    for row in table {
+        grown.push(longer(alloc, row)?)?;
+    }
+    let last = at_or_above(alloc, &table[0], 0)?;
+    grown.push(longer(alloc, &last)?)?;
+    Ok(grown)
+}
+
+// A row with one more entry, without a mark.
+fn longer(alloc: Global, row: &[bool]) -> Result<Vec<bool>, NoMemory>
+    ensures { IfOk result (λ longer. longer.items ≡ row.now ++ false ∷ []) }
+{
+    let mut longer = Vec::with_capacity(alloc, row.len() + 1)?;
+    longer.extend_from_slice(row)?;
+    longer.push(false)?;
+    Ok(longer)
+}
+
 // Puts each sort that is at or below `lower` below all that is in `above`.
-fn raise(table: &mut Vec<Vec<bool>>, lower: usize, above: &[bool])
+pub(crate) fn raise(table: &mut Vec<Vec<bool>>, lower: usize, above: &[bool])
     requires square { IsSquare (length above.now) (rows_of table.old.items) }
     requires within { lower < length above.now }
     ensures square { IsSquare (length above.now) (rows_of table.new.items) }

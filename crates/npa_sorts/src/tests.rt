@@ -29,3 +29,20 @@ fn refuses_cycles_and_fresh(rt: HostRuntime) -> Result<(), SortFail> {
     assert!(&rt; matches!(Sorts::new(alloc, 2, &fresh), Err(SortFail::Fresh(1))));
     Ok(())
 }
+
+#[test]
+fn grows_an_order(rt: HostRuntime) -> Result<(), NoMemory> {
+    let alloc = rt.alloc();
+    let mut sorts = Sorts::built_in(alloc)?;
+    assert!(&rt; sorts.declared() == 0 && !sorts.le(FRESH, MSG) && sorts.le(9, 9));
+    sorts.declare(alloc)?;
+    sorts.declare(alloc)?;
+    assert!(&rt; sorts.declared() == 2 && sorts.le(3, MSG) && !sorts.le(4, MSG));
+    sorts.put_below(alloc, 2, 3)?;
+    assert!(&rt; sorts.le(2, 3) && !sorts.le(3, 2));
+    sorts.declare(alloc)?;
+    sorts.put_below(alloc, 3, 4)?;
+    assert!(&rt; sorts.le(2, 4) && sorts.le(4, MSG) && !sorts.le(4, 2));
+    assert!(&rt; sorts.pairs().as_slice() == [(2, 3), (3, 4)].as_slice());
+    Ok(())
+}

@@ -2,6 +2,7 @@ use Rattle.std.proofs.Common.{◌≡◌, ℕ, subst}
 use Rattle.std.specs.Prelude.{None, position}
 use Rattle.npa_sorts.specs.Subsorts.{AreSorts, IsBelow, names_fresh}
 use Rattle.npa_sorts.proofs.Steps.{at_or_below_trans, at_or_below_antisym, at_or_below_sort, declared_below_msg, fresh_not_below}
+use Rattle.npa_sorts.proofs.Climbs.{decides as at_or_below_decides}
 use Rattle.npa_sorts.proofs.sorts.Sorts.laws.Goals as goal
 
 pub returns : goal.returns
@@ -17,4 +18,5 @@ returns c =
       lower = λ s t p high. at_or_below_sort o s t sorts p high;
       msg = declared_below_msg o;
       fresh = λ s t p. fresh_not_below apart p;
+      decides = at_or_below_decides o;
     }
