@@ -1,0 +1,11 @@
+pub mod Answered
+pub mod Bindings
+pub mod Counted
+pub mod Equality
+pub mod Exactness
+pub mod Going
+pub mod Lists
+pub mod Matchers
+pub mod Orders
+pub mod Parts
+pub mod Waiting

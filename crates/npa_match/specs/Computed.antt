@@ -1,0 +1,55 @@
+use Rattle.std.specs.Prelude.{ℕ, ◌+◌, Bool, true, false, nat_eq, nat_le, nat_lt, ◌&&◌, ◌||◌, List, ◌∷◌, []}
+use mathlib.Core.Bool.{beq}
+use Rattle.npa_sorts.specs.Subsorts.{Subsorts}
+use Rattle.npa_term.specs.declared.term.Op.{Op}
+use Rattle.npa_term.specs.declared.term.Term.{Term, Row_of-Term, end_of-Term, more_of-Term, items-the_row-Term}
+use Rattle.npa_term.specs.declared.term.Term.TheVariants.{Var, Name, App'}
+use Rattle.npa_term.specs.Bound.{same_var}
+
+-- Tests that compute what the definitions of equality modulo commutativity and of the order of
+-- sorts say. That they do is a law.
+
+-- Whether two operators are the same: the same number, result and commutativity.
+abbrev pub same_op : Op → Op → Bool
+same_op f g = nat_eq f.num g.num && (nat_eq f.result g.result && beq f.com g.com)
+
+-- Two arguments in the other order; any other number of arguments as they are.
+abbrev pub turned : List Term → List Term
+turned [] = []
+turned (t ∷ []) = t ∷ []
+turned (t ∷ u ∷ []) = u ∷ t ∷ []
+turned (t ∷ u ∷ v ∷ ts) = t ∷ u ∷ v ∷ ts
+
+abbrev mutual
+  -- Whether two terms are equal modulo commutativity.
+  pub is_same : Term → Term → Bool
+  is_same (Var v) (Var w) = same_var v w
+  is_same (Var v) (Name n) = false
+  is_same (Var v) (App' g k us) = false
+  is_same (Name m) (Var w) = false
+  is_same (Name m) (Name n) = nat_eq m n
+  is_same (Name m) (App' g k us) = false
+  is_same (App' f j ts) (Var w) = false
+  is_same (App' f j ts) (Name n) = false
+  is_same (App' f j ts) (App' g k us) =
+      same_op f g && (is_same_row ts (items-the_row-Term _ us)
+      || (f.com && is_same_row ts (turned (items-the_row-Term _ us))))
+
+  pub is_same_row : {n : _} → Row_of-Term n → List Term → Bool
+  is_same_row end_of-Term [] = true
+  is_same_row end_of-Term (u ∷ us) = false
+  is_same_row (more_of-Term t ts) [] = false
+  is_same_row (more_of-Term t ts) (u ∷ us) = is_same t u && is_same_row ts us
+
+-- Whether a sort is strictly below another by pairs of a lower and an upper sort, or as a declared
+-- sort that is below `Msg`.
+abbrev pub is_below : List (ℕ × ℕ) → ℕ → ℕ → ℕ → Bool
+is_below [] declared s t = nat_eq t 0 && nat_le 2 s && nat_lt s (declared + 2)
+is_below (p ∷ ps) declared s t =
+    is_below ps declared s t
+    || ((nat_eq s p.0 || is_below ps declared s p.0)
+    && (nat_eq p.1 t || is_below ps declared p.1 t))
+
+-- Whether a sort is at or below another.
+abbrev pub is_at_or_below : Subsorts → ℕ → ℕ → Bool
+is_at_or_below o s t = nat_eq s t || is_below o.pairs o.declared s t

@@ -1,0 +1,4 @@
+pub mod Branches
+pub mod Computed
+pub mod Matching
+pub mod Search
