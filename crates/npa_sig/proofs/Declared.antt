@@ -1,10 +1,9 @@
 -- The sorts of arguments are compared from the left, and operators are declared one after another.
-use Rattle.std.proofs.Common.{◌≡◌, ◌≢◌, ℕ, suc, ◌+◌, ◌<◌, ◌≤◌, Bool, true, false, ◌&&◌, List, [], ◌∷◌, ◌++◌, refl, ap, ◌∙◌, drop, map, length, get_or, drop-cons, add-one, cond, Some, is_some}
+use Rattle.std.proofs.Common.{◌≡◌, ◌≢◌, ℕ, suc, ◌+◌, ◌<◌, ◌≤◌, Bool, true, false, ◌&&◌, List, [], ◌∷◌, ◌++◌, refl, ap, ◌∙◌, drop, map, length, get_or, drop-cons, add-one}
 use Rattle.std.proofs.lemmas.List.{drop_all}
 use Rattle.npa_term.specs.declared.term.Term.{Term}
-use Rattle.npa_names.specs.Names.{place_of}
 use Rattle.npa_sig.specs.declared.signature.OpDecl.{OpDecl}
-use Rattle.npa_sig.specs.Signature.{Signature, first_twice}
+use Rattle.npa_sig.specs.Signature.{Signature, op_fault, first_of, first_op_fault}
 use Rattle.npa_sig.specs.Sorting.{is_below, sort_of, all_below}
 
 pub all_below_apart : (sig : Signature) (ss ts : List ℕ) → length ss ≢ length ts → all_below sig ss ts ≡ false
@@ -25,6 +24,6 @@ pub all_below_ends : (sig : Signature) (args : List Term) (sorts : List ℕ) (k 
     all_below sig (map sort_of (drop k args)) (drop k sorts) ≡ true
 all_below_ends sig args sorts k p q = ap (λ ts. all_below sig (map sort_of ts) (drop k sorts)) (drop_all k args p) ∙ ap (all_below sig []) (drop_all k sorts q)
 
-pub first_twice_step : (before : List (List ℕ)) (decls : List OpDecl) (k : ℕ) (d : OpDecl) → k < length decls →
-    first_twice before (drop k decls) ≡ cond (is_some (place_of (get_or decls k d).name before)) (Some (length before)) (first_twice (before ++ (get_or decls k d).name ∷ []) (drop (k + 1) decls))
-first_twice_step before decls k d p = rw (drop-cons decls k d, add-one) refl
+pub first_fault_step : (before : List (List ℕ)) (decls : List OpDecl) (k : ℕ) (d : OpDecl) → k < length decls →
+    first_op_fault before (drop k decls) ≡ first_of (op_fault (length before) before (get_or decls k d)) (first_op_fault (before ++ (get_or decls k d).name ∷ []) (drop (k + 1) decls))
+first_fault_step before decls k d p = rw (drop-cons decls k d, add-one) refl

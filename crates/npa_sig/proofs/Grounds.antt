@@ -1,5 +1,5 @@
 -- With no scope no word stands for a variable, so a term of a text has none.
-use Rattle.std.proofs.Common.{◌≡◌, ℕ, Bool, true, false, cond, List, [], Option, None, Some, Result, Ok, Err, subst, ap, sym, ◌∙◌, slice_get}
+use Rattle.std.proofs.Common.{◌≡◌, ℕ, Bool, true, false, cond, List, [], Option, None, Some, Result, Ok, Err, subst, refl, ap, sym, ◌∙◌, slice_get}
 use Rattle.std.specs.Prelude.{IfOk}
 use Rattle.std.specs.Option.{option_map, option_and_then}
 use Rattle.npa_term.specs.declared.term.Term.{Term}
@@ -8,19 +8,20 @@ use Rattle.npa_term.proofs.Induction.{Each}
 use Rattle.npa_term.proofs.GroundLaws.{ground_app}
 use Rattle.npa_text.specs.declared.token.Token.{Token}
 use Rattle.npa_text.specs.declared.token.Raw.{Raw, Raw', Row_of-Raw, end_of-Raw, more_of-Raw}
-use Rattle.npa_text.specs.Texts.{text_of}
+use Rattle.npa_text.specs.Texts.{text_of, number_of as number_in}
 use Rattle.npa_sig.specs.declared.fault.UseFail.{UseFail}
 use Rattle.npa_sig.specs.declared.meaning.Scoped.{Scoped}
 use Rattle.npa_sig.specs.declared.meaning.Head.{Head}
-use Rattle.npa_sig.specs.declared.meaning.Head.TheVariants.{Variable, Operator}
+use Rattle.npa_sig.specs.declared.meaning.Head.TheVariants.{Variable, Fresh, Operator}
 use Rattle.npa_sig.specs.declared.signature.OpDecl.{OpDecl}
 use Rattle.npa_sig.specs.Signature.{Signature, number_of}
-use Rattle.npa_sig.specs.Meaning.{operator_at, head_of, fits, with_args, in_front, judged, unfit, read, read_row, sorts_of_row, Gives}
+use Rattle.npa_sig.specs.Meaning.{operator_at, head_of, word_head, is_fresh_name, fits, with_args, in_front, judged, unfit, read, read_row, sorts_of_row, Gives}
 
--- the word stands for an operator, if for anything
+-- the head is no variable
 abbrev IsOperator : Option Head → Type 0
 IsOperator None = Unit {0}
 IsOperator (Some (Variable v)) = ⊥
+IsOperator (Some (Fresh n)) = Unit {0}
 IsOperator (Some (Operator op)) = Unit {0}
 
 operator_head : (sig : Signature) (num : ℕ) → IsOperator (operator_at sig num)
@@ -30,12 +31,19 @@ operator_head sig num = from (slice_get sig.ops num)
     from None = tt
     from (Some decl) = tt
 
-unscoped_head : (sig : Signature) (word : List ℕ) → IsOperator (head_of sig [] word)
-unscoped_head sig word = from (number_of sig word)
+unscoped_word : (sig : Signature) (word : List ℕ) → IsOperator (word_head sig [] word)
+unscoped_word sig word = from (number_of sig word)
   where
     from : (o : Option ℕ) → IsOperator (option_and_then (operator_at sig) o)
     from None = tt
     from (Some num) = operator_head sig num
+
+unscoped_head : (sig : Signature) (bytes : List ℕ) (token : Token) → IsOperator (head_of sig [] bytes token)
+unscoped_head sig bytes token = from (is_fresh_name token.kind)
+  where
+    from : (b : Bool) → IsOperator (cond b (Some (Fresh (number_in bytes token))) (word_head sig [] (text_of bytes token)))
+    from true = tt
+    from false = unscoped_word sig (text_of bytes token)
 
 -- where arguments were read, none has a variable
 abbrev AreGround : Result (List Term) UseFail → Type 0
@@ -54,6 +62,15 @@ judged_ground : (sig : Signature) (bytes : List ℕ) (token : Token) (h : Option
     IsOperator h → AreGround args → GroundRead (judged sig bytes token h sorts args)
 judged_ground sig bytes token None sorts args is gs = tt
 judged_ground sig bytes token (Some (Variable v)) sorts args is gs = absurd is
+judged_ground sig bytes token (Some (Fresh n)) sorts args is gs = chosen (fits sig (Fresh n) sorts)
+  where
+    built_ground : (rs : Result (List Term) UseFail) → GroundRead (with_args (Fresh n) rs)
+    built_ground (Ok ts) = refl
+    built_ground (Err e) = tt
+
+    chosen : (b : Bool) → GroundRead (cond b (with_args (Fresh n) args) (Err (unfit bytes token)))
+    chosen true = built_ground args
+    chosen false = tt
 judged_ground sig bytes token (Some (Operator op)) sorts args is gs = chosen (fits sig (Operator op) sorts)
   where
     built_ground : (rs : Result (List Term) UseFail) → AreGround rs → GroundRead (with_args (Operator op) rs)
@@ -68,8 +85,8 @@ module _ (sig : Signature) (bytes : List ℕ) where
   mutual
     unscoped_ground : (raw : Raw) → GroundRead (read sig [] bytes raw)
     unscoped_ground (Raw' token n args) =
-        judged_ground sig bytes token (head_of sig [] (text_of bytes token)) (sorts_of_row sig [] bytes args) (read_row sig [] bytes args)
-        (unscoped_head sig (text_of bytes token)) (unscoped_row args)
+        judged_ground sig bytes token (head_of sig [] bytes token) (sorts_of_row sig [] bytes args) (read_row sig [] bytes args)
+        (unscoped_head sig bytes token) (unscoped_row args)
 
     unscoped_row : {m : _} (k : Row_of-Raw m) → AreGround (read_row sig [] bytes k)
     unscoped_row end_of-Raw = tt

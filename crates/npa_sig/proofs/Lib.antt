@@ -3,3 +3,11 @@ pub mod Declared
 pub mod Meanings
 pub mod Prints
 pub mod Grounds
+pub mod SizeSteps
+pub mod SizeLaws
+pub mod LeastTerms
+pub mod GroundTerms
+pub mod Carriers
+pub mod Sorted
+pub mod Growing
+pub mod Places

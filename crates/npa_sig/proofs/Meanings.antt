@@ -4,16 +4,15 @@ use Rattle.std.proofs.lemmas.List.{drop_all}
 use Rattle.std.specs.Str.{bytes_eq}
 use Rattle.npa_term.specs.declared.term.Var.{Var as Variable_}
 use Rattle.npa_term.specs.declared.term.Op.{Op}
-use Rattle.npa_term.specs.declared.term.Term.{Term, Var, App}
+use Rattle.npa_term.specs.declared.term.Term.{Term, Var, Name, App}
 use Rattle.npa_text.specs.declared.token.Raw.{Raw, out-Raw, is-Raw', Row_of-Raw, end_of-Raw, more_of-Raw, items-the_row-Raw, items_hidden-the_row-Raw-0}
 use Rattle.npa_text.specs.declared.token.Raw.TheBlock.{hidden-the_row-Raw-0}
 use Rattle.npa_sig.specs.declared.fault.UseFail.{UseFail}
 use Rattle.npa_sig.specs.declared.fault.UseFail.TheVariants as use_fail
 use Rattle.npa_sig.specs.declared.meaning.Scoped.{Scoped}
 use Rattle.npa_sig.specs.declared.meaning.Head.{Head}
-use Rattle.npa_sig.specs.declared.meaning.Head.TheVariants.{Variable, Operator}
+use Rattle.npa_sig.specs.declared.meaning.Head.TheVariants.{Variable, Fresh, Operator}
 use Rattle.npa_sig.specs.Signature.{Signature}
-use Rattle.npa_text.specs.Texts.{text_of}
 use Rattle.npa_sig.specs.Meaning.{variable_of, head_of, sort_at, one_fits, all_fit, fits, is_none_left, unknown, unfit, with_args, in_front, judged, read, read_row, sorts_of_row, read_all, Tells, TellsFault}
 
 pub variable_of_step : (word : List ℕ) (scope : List Scoped) (k : ℕ) (d : Scoped) → k < length scope →
@@ -62,16 +61,16 @@ module _ (sig : Signature) (scope : List Scoped) (bytes : List ℕ) where
   read_items end_of-Raw = refl
   read_items (more_of-Raw r rest) = ap (in_front (read sig scope bytes r)) (read_items rest)
 
-  abbrev word_head : Raw → Option Head
-  word_head raw = head_of sig scope (text_of bytes (out-Raw raw).head)
+  abbrev its_head : Raw → Option Head
+  its_head raw = head_of sig scope bytes (out-Raw raw).head
 
-  pub read_at : (raw : Raw) → read sig scope bytes raw ≡ judged sig bytes (out-Raw raw).head (word_head raw) (sorts (out-Raw raw).args) (read_all sig scope bytes (out-Raw raw).args)
+  pub read_at : (raw : Raw) → read sig scope bytes raw ≡ judged sig bytes (out-Raw raw).head (its_head raw) (sorts (out-Raw raw).args) (read_all sig scope bytes (out-Raw raw).args)
   read_at raw =
       let k = hidden-the_row-Raw-0 (out-Raw raw).args in
       let listed = items_hidden-the_row-Raw-0 (out-Raw raw).args in
       ap (read sig scope bytes) (is-Raw' raw)
-      ∙ ap (λ ss. judged sig bytes (out-Raw raw).head (word_head raw) ss (read_row sig scope bytes k)) (sorts_items k ∙ ap (λ rs. sorts rs) listed)
-      ∙ ap (λ ts. judged sig bytes (out-Raw raw).head (word_head raw) (sorts (out-Raw raw).args) ts) (read_items k ∙ ap (read_all sig scope bytes) listed)
+      ∙ ap (λ ss. judged sig bytes (out-Raw raw).head (its_head raw) ss (read_row sig scope bytes k)) (sorts_items k ∙ ap (λ rs. sorts rs) listed)
+      ∙ ap (λ ts. judged sig bytes (out-Raw raw).head (its_head raw) (sorts (out-Raw raw).args) ts) (read_items k ∙ ap (read_all sig scope bytes) listed)
 
   tells : (e f : UseFail) (r : Result Term UseFail) → Tells e f → r ≡ Err f → TellsFault e r
   tells use_fail.NoMemory f r t is = tt
@@ -79,10 +78,10 @@ module _ (sig : Signature) (scope : List Scoped) (bytes : List ℕ) where
   tells (use_fail.Sort n l c) f r t is = is ∙ ap Err t
 
   module _ (raw : Raw) where
-    pub is_unknown : (e : UseFail) → word_head raw ≡ None → Tells e (unknown bytes (out-Raw raw).head) → TellsFault e (read sig scope bytes raw)
+    pub is_unknown : (e : UseFail) → its_head raw ≡ None → Tells e (unknown bytes (out-Raw raw).head) → TellsFault e (read sig scope bytes raw)
     is_unknown e none t = tells e (unknown bytes (out-Raw raw).head) _ t (read_at raw ∙ ap (λ h. judged sig bytes (out-Raw raw).head h (sorts (out-Raw raw).args) (read_all sig scope bytes (out-Raw raw).args)) none)
 
-    module _ (h : Head) (found : word_head raw ≡ Some h) where
+    module _ (h : Head) (found : its_head raw ≡ Some h) where
       judged_head : read sig scope bytes raw ≡ cond (fits sig h (sorts (out-Raw raw).args)) (with_args h (read_all sig scope bytes (out-Raw raw).args)) (Err (unfit bytes (out-Raw raw).head))
       judged_head = read_at raw ∙ ap (λ o. judged sig bytes (out-Raw raw).head o (sorts (out-Raw raw).args) (read_all sig scope bytes (out-Raw raw).args)) found
 
@@ -95,14 +94,22 @@ module _ (sig : Signature) (scope : List Scoped) (bytes : List ℕ) where
       is_built args same f = judged_head ∙ ap (λ (rs : List Raw). cond (fits sig h (sorts rs)) (with_args h (read_all sig scope bytes rs)) (Err (unfit bytes (out-Raw raw).head))) (sym same) ∙ ap (λ b. cond b (with_args h (read_all sig scope bytes args)) (Err (unfit bytes (out-Raw raw).head))) f
 
     -- a variable takes no arguments
-    pub is_variable : (v : Variable_) (args : List Raw) → args ≡ (out-Raw raw).args → word_head raw ≡ Some (Variable v) → fits sig (Variable v) (sorts args) ≡ true → read sig scope bytes raw ≡ Ok (Var v)
+    pub is_variable : (v : Variable_) (args : List Raw) → args ≡ (out-Raw raw).args → its_head raw ≡ Some (Variable v) → fits sig (Variable v) (sorts args) ≡ true → read sig scope bytes raw ≡ Ok (Var v)
     is_variable v args same found f = is_built (Variable v) found args same f ∙ ap (with_args (Variable v)) (none args f)
       where
         none : (rs : List Raw) → is_none_left (sorts rs) ≡ true → read_all sig scope bytes rs ≡ Ok []
         none [] e = refl
         none (r ∷ rs) e = cc
 
-    module _ (op : Op) (args : List Raw) (same : args ≡ (out-Raw raw).args) (found : word_head raw ≡ Some (Operator op)) (f : fits sig (Operator op) (sorts args) ≡ true) (made : List Term) (k : ℕ)
+    -- nor does a fresh name
+    pub is_fresh : (n : ℕ) (args : List Raw) → args ≡ (out-Raw raw).args → its_head raw ≡ Some (Fresh n) → fits sig (Fresh n) (sorts args) ≡ true → read sig scope bytes raw ≡ Ok (Name n)
+    is_fresh n args same found f = is_built (Fresh n) found args same f ∙ ap (with_args (Fresh n)) (none args f)
+      where
+        none : (rs : List Raw) → is_none_left (sorts rs) ≡ true → read_all sig scope bytes rs ≡ Ok []
+        none [] e = refl
+        none (r ∷ rs) e = cc
+
+    module _ (op : Op) (args : List Raw) (same : args ≡ (out-Raw raw).args) (found : its_head raw ≡ Some (Operator op)) (f : fits sig (Operator op) (sorts args) ≡ true) (made : List Term) (k : ℕ)
         (front : read_all sig scope bytes args ≡ with_front made (read_all sig scope bytes (drop k args))) where
       next : (r : Raw) → k < length args → r ≡ get_or args k r → read_all sig scope bytes (drop k args) ≡ in_front (read sig scope bytes r) (read_all sig scope bytes (drop (k + 1) args))
       next r l at = step r l ∙ ap (λ (x : Raw). in_front (read sig scope bytes x) (read_all sig scope bytes (drop (k + 1) args))) (sym at)

@@ -2,3 +2,6 @@ pub mod Signature
 pub mod Sorting
 pub mod Meaning
 pub mod Printing
+pub mod Least
+pub mod Sizes
+pub mod Nameless

@@ -1,26 +1,36 @@
 -- What a term of a text means: names are looked up, sorts are compared, and the first word at
 -- fault, in the order of the text, is told.
-use Rattle.std.specs.Prelude.{◌≡◌, ℕ, Bool, true, false, ◌&&◌, List, [], ◌∷◌, Option, None, Some, Result, Ok, Err, slice_get, cond}
+use Rattle.std.specs.Prelude.{◌≡◌, ℕ, Bool, true, false, ◌&&◌, List, [], ◌∷◌, Option, None, Some, Result, Ok, Err, map, Contains, slice_get, cond}
 use Rattle.std.specs.Option.{option_map, option_and_then}
 use Rattle.std.specs.Str.{bytes_eq}
 use Rattle.npa_term.specs.declared.term.Var.{Var as Variable_}
-use Rattle.npa_term.specs.declared.term.Term.{Term, Var, App}
+use Rattle.npa_term.specs.declared.term.Term.{Term, Var, Name, App}
+use Rattle.npa_text.specs.declared.token.Kind.{Kind}
+use Rattle.npa_text.specs.declared.token.Kind.TheVariants.{FreshName}
 use Rattle.npa_text.specs.declared.token.Token.{Token}
 use Rattle.npa_text.specs.declared.token.Raw.{Raw, Raw', out-Raw, Row_of-Raw, end_of-Raw, more_of-Raw}
 use Rattle.npa_sig.specs.declared.fault.UseFail.{UseFail}
 use Rattle.npa_sig.specs.declared.fault.UseFail.TheVariants as use_fail
 use Rattle.npa_sig.specs.declared.meaning.Scoped.{Scoped}
 use Rattle.npa_sig.specs.declared.meaning.Head.{Head}
-use Rattle.npa_sig.specs.declared.meaning.Head.TheVariants.{Variable, Operator}
+use Rattle.npa_sig.specs.declared.meaning.Head.TheVariants.{Variable, Fresh, Operator}
 use Rattle.npa_sig.specs.declared.signature.OpDecl.{OpDecl}
 use Rattle.npa_sig.specs.Signature.{Signature, number_of}
-use Rattle.npa_sig.specs.Sorting.{is_below}
-use Rattle.npa_text.specs.Texts.{text_of}
+use Rattle.npa_sig.specs.Sorting.{is_sort, is_below}
+use Rattle.npa_text.specs.Texts.{text_of, number_of as number_in}
 
 -- the variable that a scope gives a word
 abbrev pub variable_of : List ℕ → List Scoped → Option Variable_
 variable_of word [] = None
 variable_of word (s ∷ scope) = cond (bytes_eq word s.name) (Some s.var) (variable_of word scope)
+
+-- the variables of a scope
+abbrev pub scope_variables : List Scoped → List Variable_
+scope_variables scope = map (λ s. s.var) scope
+
+-- the sorts of a scope's variables are sorts
+abbrev pub IsSorted : Signature → List Scoped → Type 0
+IsSorted sig scope = (v : Variable_) → Contains (scope_variables scope) v → is_sort sig v.sort ≡ true
 
 -- the operator of a number, as it stands in terms
 abbrev pub operator_at : Signature → ℕ → Option Head
@@ -35,16 +45,25 @@ first_of_two (Some h) o = Some h
 first_of_two None o = o
 
 -- a word stands for a variable of the scope, or else for an operator
-abbrev pub head_of : Signature → List Scoped → List ℕ → Option Head
-head_of sig scope word = first_of_two (option_map Variable (variable_of word scope)) (operator_of sig word)
+abbrev pub word_head : Signature → List Scoped → List ℕ → Option Head
+word_head sig scope word = first_of_two (option_map Variable (variable_of word scope)) (operator_of sig word)
+
+abbrev pub is_fresh_name : Kind → Bool
+is_fresh_name FreshName = true
+is_fresh_name kind = false
+
+-- a fresh name stands for itself, and any other token for what its word stands for
+abbrev pub head_of : Signature → List Scoped → List ℕ → Token → Option Head
+head_of sig scope bytes token = cond (is_fresh_name token.kind) (Some (Fresh (number_in bytes token))) (word_head sig scope (text_of bytes token))
 
 abbrev pub head_sort : Head → ℕ
 head_sort (Variable v) = v.sort
+head_sort (Fresh n) = 1
 head_sort (Operator op) = op.result
 
 -- the sort of a term, which its first word tells, if it stands for something
 abbrev pub sort_at : Signature → List Scoped → List ℕ → Raw → Option ℕ
-sort_at sig scope bytes raw = option_map head_sort (head_of sig scope (text_of bytes (out-Raw raw).head))
+sort_at sig scope bytes raw = option_map head_sort (head_of sig scope bytes (out-Raw raw).head)
 
 abbrev pub one_fits : Signature → Option ℕ → ℕ → Bool
 one_fits sig None t = true
@@ -65,9 +84,10 @@ abbrev pub fits_decl : Signature → List (Option ℕ) → Option OpDecl → Boo
 fits_decl sig sorts None = false
 fits_decl sig sorts (Some decl) = all_fit sig sorts decl.args
 
--- a variable has no arguments, and an operator those that were declared
+-- a variable and a fresh name have no arguments, and an operator those that were declared
 abbrev pub fits : Signature → Head → List (Option ℕ) → Bool
 fits sig (Variable v) sorts = is_none_left sorts
+fits sig (Fresh n) sorts = is_none_left sorts
 fits sig (Operator op) sorts = fits_decl sig sorts (slice_get sig.ops op.num)
 
 -- the refusal of a word that stands for nothing, and of one whose arguments don't fit it
@@ -80,6 +100,7 @@ unfit bytes token = use_fail.Sort (text_of bytes token) token.line token.col
 -- the head with its arguments
 abbrev pub built : Head → List Term → Term
 built (Variable v) args = Var v
+built (Fresh n) args = Name n
 built (Operator op) args = App op args
 
 abbrev pub with_args : Head → Result (List Term) UseFail → Result Term UseFail
@@ -99,7 +120,7 @@ judged sig bytes token (Some h) sorts args = cond (fits sig h sorts) (with_args 
 abbrev mutual
   -- the term that a term of a text stands for, or the first word at fault
   pub read : Signature → List Scoped → List ℕ → Raw → Result Term UseFail
-  read sig scope bytes (Raw' head n args) = judged sig bytes head (head_of sig scope (text_of bytes head)) (sorts_of_row sig scope bytes args) (read_row sig scope bytes args)
+  read sig scope bytes (Raw' head n args) = judged sig bytes head (head_of sig scope bytes head) (sorts_of_row sig scope bytes args) (read_row sig scope bytes args)
 
   pub read_row : {m : _} → Signature → List Scoped → List ℕ → Row_of-Raw m → Result (List Term) UseFail
   read_row sig scope bytes end_of-Raw = Ok []

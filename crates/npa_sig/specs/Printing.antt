@@ -1,16 +1,16 @@
 -- The text of a term.
-use Rattle.std.specs.Prelude.{◌≡◌, ℕ, zero, suc, List, [], ◌∷◌, ◌++◌, slice_get, codes, take, length}
+use Rattle.std.specs.Prelude.{◌≡◌, ℕ, zero, suc, List, [], ◌∷◌, ◌++◌, slice_get, codes, take, length, unwrap_or}
 use Rattle.std.specs.Fmt.{decimal}
 use Rattle.std.specs.Option.{option_map_or}
 use Rattle.npa_term.specs.declared.term.Term.{Term, Row_of-Term, end_of-Term, more_of-Term}
 use Rattle.npa_term.specs.declared.term.Term.TheVariants.{Var, Name, App'}
 use Rattle.npa_sig.specs.Signature.{Signature}
 
--- the name of a sort: 0 and 1 are built in
+-- the name of a sort: 0 and 1 are built in, the declared ones follow
 abbrev pub sort_text : Signature → ℕ → List ℕ
 sort_text sig zero = codes "Msg"
 sort_text sig (suc zero) = codes "Fresh"
-sort_text sig (suc (suc n)) = []
+sort_text sig (suc (suc n)) = unwrap_or (slice_get sig.sort_names n) []
 
 abbrev pub op_text : Signature → ℕ → List ℕ
 op_text sig number = option_map_or (λ decl. decl.name) (slice_get sig.ops number) []

@@ -1,17 +1,18 @@
 -- The sorts of terms (order-sorted algebra, Goguen and Meseguer 1992).
-use Rattle.std.specs.Prelude.{ℕ, Bool, true, false, ◌==◌, ◌&&◌, nat_lt, List, [], ◌∷◌, Option, None, Some, slice_get}
+use Rattle.std.specs.Prelude.{ℕ, ◌+◌, Bool, true, false, ◌==◌, ◌&&◌, nat_lt, List, [], ◌∷◌, Option, None, Some, slice_get}
+use Rattle.npa_sorts.specs.Subsorts.{at_or_below}
 use Rattle.npa_term.specs.declared.term.Op.{Op}
 use Rattle.npa_term.specs.declared.term.Term.{Term, Var, Name, App', Row_of-Term, end_of-Term, more_of-Term}
 use Rattle.npa_sig.specs.declared.signature.OpDecl.{OpDecl}
 use Rattle.npa_sig.specs.Signature.{Signature}
 
--- a number that stands for a sort: 0 for messages, 1 for fresh values
+-- a number that stands for a sort: 0 for messages, 1 for fresh values, and from 2 on the declared ones
 abbrev pub is_sort : Signature → ℕ → Bool
-is_sort sig s = nat_lt s 2
+is_sort sig s = nat_lt s (sig.sorts.declared + 2)
 
--- whether a sort is at or below another; the two built-in sorts are apart
+-- whether a sort is at or below another
 abbrev pub is_below : Signature → ℕ → ℕ → Bool
-is_below sig s t = s == t
+is_below sig s t = at_or_below sig.sorts s t
 
 -- the least sort of a term: the variable's sort, that of fresh values, or the operator's result
 abbrev pub sort_of : Term → ℕ

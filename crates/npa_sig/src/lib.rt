@@ -1,9 +1,13 @@
-//! Signatures and protocols: the operators of a module, the terms that are well sorted for them,
+//! Signatures and protocols: the sorts and operators of a module, the terms that are well sorted for them,
 //! what a term of a text means, and how a term is printed.
 #![tactic(auto)]
 
 mod fault;
+#[cfg(test)]
+mod ground_tests;
+mod least;
 mod meaning;
+mod nameless;
 mod printing;
 mod protocol;
 mod signature;
@@ -11,9 +15,10 @@ mod sorting;
 #[cfg(test)]
 mod tests;
 
-pub use fault::{SigFail, UseFail};
-pub use meaning::{Scope, Scoped, resolve};
+pub use fault::{GroundFault, LeastFail, SigFail, UseFail};
+pub use least::MAX_GROUND;
+pub use meaning::{Scope, Scoped, resolve, sort_at};
+pub use npa_sorts::{FRESH, MSG, SortNums};
 pub use printing::print_term;
 pub use protocol::{Equation, Equations, Event, Events, Protocol, Strand, Strands};
-pub use signature::{OpDecl, OpDecls, Sig, SortNums};
-pub use sorting::{FRESH, MSG};
+pub use signature::{OpDecl, OpDecls, Sig};

@@ -1,12 +1,14 @@
-ghost use Rattle.std.specs.Prelude.{◌≡◌, map, [], None, Some, IfOk};
-ghost use Rattle.npa_term.specs.Variables.{IsGround};
-ghost use Rattle.npa_sig.specs.Meaning.{read, Gives, head_of, variable_of, operator_of, sort_at, fits, all_fit, one_fits, unknown, unfit, Tells};
+ghost use Rattle.std.specs.Prelude.{◌≡◌, map, [], None, Some, true, IfOk, All, Contains};
+ghost use Rattle.npa_term.specs.Variables.{IsGround, variables};
+ghost use Rattle.npa_sig.specs.Sorting.{sort_of, well_sorted};
+ghost use Rattle.npa_sig.specs.Meaning.{read, Gives, IsSorted, scope_variables, head_of, word_head, is_fresh_name, variable_of, operator_of, sort_at, fits, all_fit, one_fits, unknown, unfit, Tells};
 
 use crate::fault::UseFail;
 use crate::signature::Sig;
 use npa_list::List;
+use npa_sorts::FRESH;
 use npa_term::{Op, Term, Var};
-use npa_text::{Name, Raw, Token, token_text};
+use npa_text::{Kind, Name, Raw, Token, number_of, token_text};
 use std::alloc::Global;
 
 /// A name that stands for a variable.
@@ -23,13 +25,14 @@ pub type Scope = List<Scoped>;
 #[derive(Clone, Copy, Debug)]
 enum Head {
     Variable(Var),
+    Fresh(u32),
     Operator(Op),
 }
 
 /// The term that a term of a text stands for. A word stands for the variable that the scope gives
-/// it, or else for the operator of that name. A refusal names the first word at fault, in the
+/// it, or else for the operator of that name, and a fresh name of the text for itself. A refusal names the first word at fault, in the
 /// order of the text; a wrong number or sort of arguments is a fault of the word that has them.
-#[tactic(auto, using(crate::proofs::Grounds::ground_answer))]
+#[tactic(auto, using(crate::proofs::Grounds::ground_answer, crate::proofs::Sorted::sorted_answer, crate::proofs::Sorted::own_answer, crate::proofs::Sorted::told_answer))]
 pub fn resolve(
     alloc: Global,
     sig: &Sig,
@@ -39,6 +42,9 @@ pub fn resolve(
 ) -> Result<Term, UseFail>
     ensures means { Gives result (read sig.now scope.now bytes.now raw.now) }
     ensures ground { scope.now ≡ [] → IfOk result IsGround }
+    ensures sorted { IsSorted sig.now scope.now → IfOk result (λ t. well_sorted sig.now t ≡ true) }
+    ensures own { IfOk result (λ t. All (Contains (scope_variables scope.now)) (variables t)) }
+    ensures told { IfOk result (λ t. sort_at sig.now scope.now bytes.now raw.now ≡ Some (sort_of t)) }
 {
     read(alloc, sig, scope.as_slice(), bytes, raw)
 }
@@ -53,7 +59,7 @@ fn read(
     ensures { Gives result (read sig.now scope.now bytes.now raw.now) }
 {
     let args = raw.args.as_slice();
-    let head = match head_of(sig, scope, token_text(bytes, raw.head)) {
+    let head = match head_of(sig, scope, bytes, raw.head) {
         Some(head) => head,
         None => return Err(unknown(alloc, bytes, raw.head)),
     };
@@ -62,6 +68,7 @@ fn read(
     }
     match head {
         Head::Variable(v) => Ok(Term::Var(v)),
+        Head::Fresh(n) => Ok(Term::Name(n)),
         Head::Operator(op) => {
             let mut terms = Vec::with_capacity(alloc, args.len())?;
             for arg in args {
@@ -75,9 +82,28 @@ fn read(
     }
 }
 
+// What the token stands for.
+fn head_of(sig: &Sig, scope: &[Scoped], bytes: &[u8], token: Token) -> Option<Head>
+    ensures { result ≡ head_of sig.now scope.now bytes.now token }
+{
+    if is_fresh_name(token.kind) {
+        return Some(Head::Fresh(number_of(bytes, token)));
+    }
+    word_head(sig, scope, token_text(bytes, token))
+}
+
+fn is_fresh_name(kind: Kind) -> bool
+    ensures { result ≡ is_fresh_name kind }
+{
+    match kind {
+        Kind::FreshName => true,
+        _ => false,
+    }
+}
+
 // What the word stands for.
-fn head_of(sig: &Sig, scope: &[Scoped], word: &[u8]) -> Option<Head>
-    ensures { result ≡ head_of sig.now scope.now word.now }
+fn word_head(sig: &Sig, scope: &[Scoped], word: &[u8]) -> Option<Head>
+    ensures { result ≡ word_head sig.now scope.now word.now }
 {
     match variable_of(scope, word) {
         Some(v) => Some(Head::Variable(v)),
@@ -118,6 +144,7 @@ fn fits(sig: &Sig, scope: &[Scoped], bytes: &[u8], head: Head, args: &[Raw]) -> 
 {
     match head {
         Head::Variable(_) => args.is_empty(),
+        Head::Fresh(_) => args.is_empty(),
         Head::Operator(op) => match sig.ops().get(op.num as usize) {
             Some(decl) => all_fit(sig, scope, bytes, args, decl.args.as_slice()),
             None => false,
@@ -150,12 +177,13 @@ fn one_fits(sig: &Sig, sort: Option<u16>, declared: u16) -> bool
     }
 }
 
-// The sort of a term, which its first word tells.
-fn sort_at(sig: &Sig, scope: &[Scoped], bytes: &[u8], raw: &Raw) -> Option<u16>
+/// The sort of a term, which its first word tells: `None` where that stands for nothing.
+pub fn sort_at(sig: &Sig, scope: &[Scoped], bytes: &[u8], raw: &Raw) -> Option<u16>
     ensures { result ≡ sort_at sig.now scope.now bytes.now raw.now }
 {
-    match head_of(sig, scope, token_text(bytes, raw.head))? {
+    match head_of(sig, scope, bytes, raw.head)? {
         Head::Variable(v) => Some(v.sort),
+        Head::Fresh(_) => Some(FRESH),
         Head::Operator(op) => Some(op.result),
     }
 }

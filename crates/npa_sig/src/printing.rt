@@ -8,17 +8,6 @@ use npa_term::{NoMemory, Op, Term, Var};
 use npa_text::put_number;
 
 impl Sig {
-    /// The name of a sort: the built-in sorts are `Msg` and `Fresh`.
-    pub fn sort_name(&self, sort: u16) -> &[u8]
-        ensures { result.now ≡ sort_text self.now sort }
-    {
-        match sort {
-            0 => b"Msg",
-            1 => b"Fresh",
-            _ => b"",
-        }
-    }
-
     /// The name of an operator.
     fn op_name(&self, number: u16) -> &[u8]
         ensures { result.now ≡ op_text self.now number }

@@ -1,5 +1,6 @@
-use crate::signature::{Sig, SortNums};
+use crate::signature::Sig;
 use npa_list::List;
+use npa_sorts::SortNums;
 use npa_term::Term;
 use npa_text::{Name, Names};
 

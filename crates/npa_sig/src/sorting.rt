@@ -1,28 +1,55 @@
-ghost use Rattle.std.specs.Prelude.{◌≡◌, map, slice_get};
+ghost use Rattle.std.specs.Prelude.{◌≡◌, ◌↔◌, IsTrue, map, slice_get};
+ghost use Rattle.npa_sig.specs.Least.{AreSorts, HasSorts, HaveSorts};
 ghost use Rattle.npa_sig.specs.Sorting.{is_sort, is_below, sort_of, well_sorted, is_declared, all_below, agrees};
 
 use crate::signature::{OpDecl, Sig};
+use npa_sorts::FRESH;
 use npa_term::{Op, Term};
-
-/// The number of the built-in sort of all messages.
-pub const MSG: u16 = 0;
-
-/// The number of the built-in sort of fresh values.
-pub const FRESH: u16 = 1;
 
 impl Sig {
     /// Whether a number stands for a sort.
     pub fn is_sort(&self, sort: u16) -> bool
         ensures { result ≡ is_sort self.now sort }
     {
-        sort < 2
+        (sort as u32) < self.sorts().declared() as u32 + 2
+    }
+
+    /// Whether each sort number in the operators stands for a sort.
+    pub fn has_sorts(&self) -> bool
+        ensures { IsTrue result ↔ HaveSorts self.now.sorts self.now.ops }
+    {
+        for decl in self.ops().as_slice() {
+            if !self.declares_sorts(decl) {
+                return false;
+            }
+        }
+        true
+    }
+
+    // Whether an operator's result sort and argument sorts are sorts.
+    fn declares_sorts(&self, decl: &OpDecl) -> bool
+        ensures { IsTrue result ↔ HasSorts self.now.sorts decl.now }
+    {
+        self.is_sort(decl.result) && self.are_sorts(decl.args.as_slice())
+    }
+
+    // Whether these numbers stand for sorts.
+    fn are_sorts(&self, sorts: &[u16]) -> bool
+        ensures { IsTrue result ↔ AreSorts self.now.sorts sorts.now }
+    {
+        for sort in sorts {
+            if !self.is_sort(*sort) {
+                return false;
+            }
+        }
+        true
     }
 
     /// Whether a sort is at or below another.
     pub fn is_below(&self, lower: u16, upper: u16) -> bool
         ensures { result ≡ is_below self.now lower upper }
     {
-        lower == upper
+        self.sorts().le(lower, upper)
     }
 
     /// The least sort of a term. It takes no memory.

@@ -1,9 +1,10 @@
-ghost use Rattle.std.specs.Prelude.{◌≡◌, length, IfOk};
+ghost use Rattle.std.specs.Prelude.{◌≡◌, ◌<◌, length, IfOk};
 
 use super::*;
 use npa_list::List;
+use npa_sorts::Sorts;
 use npa_term::{Op, Term, Terms, Var};
-use npa_text::{MOST_BYTES, NoMemory, put_number, raw_term, tokens};
+use npa_text::{Kind, MOST_BYTES, NoMemory, Raw, Token, put_number, raw_term, tokens};
 use std::alloc::{AllocError, Global};
 use std::test::Fail;
 
@@ -39,9 +40,16 @@ fn operators(alloc: Global, constant: &[u8], unary: &[u8]) -> Result<OpDecls, Al
     Ok(ops)
 }
 
+// The signature of these operators, without declared sorts.
+fn signature_of(alloc: Global, ops: OpDecls) -> Result<Sig, SigFail>
+    requires { length ops < 65535 }
+{
+    Sig::new(alloc, Sorts::built_in(alloc)?, List::new(alloc), ops)
+}
+
 // The signature of the constant a and the unary f.
 fn signature(alloc: Global) -> Result<Sig, SigFail> {
-    Sig::new(alloc, operators(alloc, b"a", b"f")?)
+    signature_of(alloc, operators(alloc, b"a", b"f")?)
 }
 
 #[test]
@@ -63,13 +71,58 @@ fn finds_operators(rt: HostRuntime) -> Result<(), Fail> {
 #[test]
 fn names_operators_once(rt: HostRuntime) -> Result<(), Fail> {
     let alloc = rt.alloc();
-    let twice = Sig::new(alloc, operators(alloc, b"f", b"f")?);
+    let twice = signature_of(alloc, operators(alloc, b"f", b"f")?);
     assert!(rt; matches!(twice, Err(SigFail::Twice(1))));
-    let one = Sig::empty(alloc).declare(alloc, operator(alloc, b"f", &[])?)?;
+    let one = Sig::bare(alloc)?.declare(alloc, operator(alloc, b"f", &[])?)?;
     if one.ops().len() == 1 {
         let again = one.declare(alloc, operator(alloc, b"f", &[MSG])?);
         assert!(rt; matches!(again, Err(SigFail::Twice(1))));
     }
+    Ok(())
+}
+
+// An operator g of this result with two arguments.
+fn pair(alloc: Global, sort: u16, args: &[u16], com: bool) -> Result<OpDecl, AllocError> {
+    Ok(OpDecl {
+        name: List::from_slice(alloc, b"g")?,
+        args: List::from_slice(alloc, args)?,
+        result: sort,
+        com,
+    })
+}
+
+#[test]
+fn refuses_operators(rt: HostRuntime) -> Result<(), Fail> {
+    let alloc = rt.alloc();
+    let fresh = Sig::bare(alloc)?.declare(alloc, pair(alloc, FRESH, &[MSG, FRESH], true)?);
+    assert!(rt; matches!(fresh, Err(SigFail::Fresh(0))));
+    let apart = Sig::bare(alloc)?.declare(alloc, pair(alloc, MSG, &[MSG, FRESH], true)?);
+    assert!(rt; matches!(apart, Err(SigFail::Comm(0))));
+    let single = Sig::bare(alloc)?.declare(alloc, pair(alloc, MSG, &[MSG], true)?);
+    assert!(rt; matches!(single, Err(SigFail::Comm(0))));
+    let both = Sig::bare(alloc)?.declare(alloc, pair(alloc, MSG, &[FRESH, FRESH], true)?);
+    assert!(rt; both.is_ok());
+    Ok(())
+}
+
+// The sorts Key and Nonce, of which the second is below the first.
+fn sorted(alloc: Global) -> Result<Sig, SigFail> {
+    let sig = Sig::bare(alloc)?.declare_sort(alloc, List::from_slice(alloc, b"Key")?)?;
+    let sig = sig.declare_sort(alloc, List::from_slice(alloc, b"Nonce")?)?;
+    sig.put_below(alloc, 3, 2)
+}
+
+#[test]
+fn declares_sorts(rt: HostRuntime) -> Result<(), Fail> {
+    let alloc = rt.alloc();
+    let sig = sorted(alloc)?;
+    assert!(rt; sig.is_below(3, 2) && sig.is_below(3, MSG) && sig.is_below(2, MSG));
+    assert!(rt; !sig.is_below(2, 3) && !sig.is_below(MSG, 2));
+    assert!(rt; sig.is_sort(3) && !sig.is_sort(4));
+    assert_eq!(rt; sig.sorts().declared(), 2);
+    assert_eq!(rt; sig.sort_name(2), b"Key".as_slice());
+    assert_eq!(rt; sig.sort_name(3), b"Nonce".as_slice());
+    assert_eq!(rt; sig.sort_name(4), b"".as_slice());
     Ok(())
 }
 
@@ -210,6 +263,25 @@ fn terms_of_texts(rt: HostRuntime) -> Result<(), Fail> {
         let found = meaning(alloc, &sig, &scope, text)?;
         assert_eq!(rt; found.as_str(), wanted, "at {text}");
     }
+    Ok(())
+}
+
+#[test]
+fn fresh_names_stand_for_themselves(rt: HostRuntime) -> Result<(), Fail> {
+    let alloc = rt.alloc();
+    let sig = signature(alloc)?;
+    let raw = Raw {
+        head: Token {
+            kind: Kind::FreshName,
+            start: 0,
+            end: 3,
+            line: 1,
+            col: 1,
+        },
+        args: List::new(alloc),
+    };
+    let read = resolve(alloc, &sig, &List::new(alloc), b"#12", &raw);
+    assert!(rt; matches!(read, Ok(Term::Name(12))));
     Ok(())
 }
 
