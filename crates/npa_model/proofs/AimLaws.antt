@@ -19,12 +19,12 @@ in_front front chosen n m of h = ⊎_elim (Contains-append_left (n ∷ []) chose
 
 module _ (nf : Term → Term) (run : Run) (sent values : List Term) where
   -- an instance for each strand part of the first parts
-  record Front (k : ℕ) (parts : List Part) (chosen : List ℕ) : Type 0 where
-    front : List ℕ
-    meets : Meets nf run sent values (take k parts) front
-    among : (n : ℕ) → Contains front n → Contains chosen n
+  pub record Front (k : ℕ) (parts : List Part) (chosen : List ℕ) : Type 0 where
+    pub front : List ℕ
+    pub meets : Meets nf run sent values (take k parts) front
+    pub among : (n : ℕ) → Contains front n → Contains chosen n
 
-  meets_front : {parts : List Part} {chosen : List ℕ} → Meets nf run sent values parts chosen → (k : ℕ) → Front k parts chosen
+  pub meets_front : {parts : List Part} {chosen : List ℕ} → Meets nf run sent values parts chosen → (k : ℕ) → Front k parts chosen
   meets_front m zero = record { front = []; meets = nothing; among = λ n h. absurd (omega (arith, h.1)) }
   meets_front nothing (suc k) = record { front = []; meets = nothing; among = λ n h. h }
   meets_front (known t parts chosen was m) (suc k) =
@@ -72,7 +72,7 @@ module _ (nf : Term → Term) (protocol : Protocol) (run : Run) where
 
     misses_in_order : {j k : ℕ} → Misses nf protocol aim run j → Misses nf protocol aim run k → j < k → ⊥
     misses_in_order {j} {k} m n l =
-        m.fails (subst (λ (ts : List Term). MeetsSomehow nf protocol.sig aim.sorts run ts (take j aim.parts)) (same_sent n.runs m.runs) (n.before j l))
+        m.fails (subst (λ (ts : List Term). MeetsSomehow nf protocol.sig aim.sorts run ts (take j aim.parts)) (same_sent n.runs m.runs) (n.before j m.within.0 l))
 
     -- it misses one part at most
     pub misses_once : {j k : ℕ} → Misses nf protocol aim run j → Misses nf protocol aim run k → j ≡ k

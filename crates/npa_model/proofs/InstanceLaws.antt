@@ -13,7 +13,7 @@ use Rattle.npa_sig.specs.Sorting.{sort_of, is_below, all_below}
 use Rattle.npa_model.specs.declared.run.Instance.{Instance}
 use Rattle.npa_model.specs.declared.run.Cause.{Cause}
 use Rattle.npa_model.specs.declared.run.Cause.TheVariants as cause
-use Rattle.npa_model.specs.Instances.{param_sorts, AreInstances, AreGround, AreApart, fresh_names, sort_fault, strand_fault, instance_fault, or_else, first_fault, first_again, start_fault}
+use Rattle.npa_model.specs.Instances.{param_sorts, AreInstances, AreGroundTerms, AreApart, fresh_names, sort_fault, strand_fault, instance_fault, or_else, first_fault, first_again, start_fault}
 
 cond_none : (b : Bool) (o : Option Cause) (c : Cause) → cond b o (Some c) ≡ None → (b ≡ true) × (o ≡ None)
 cond_none true o c e = (refl, e)
@@ -32,7 +32,7 @@ module _ (sig : Signature) (strands : List Strand) where
       let both = cond_none (is_below sig (sort_of t) s) (sort_fault sig k (p + 1) args sorts) (cause.Sort k p) e in
       and_from (is_below sig (sort_of t) s) (all_below sig (map sort_of args) sorts) both.0 (are_below k (p + 1) args sorts (omega arith) both.1)
 
-  are_even : (args : List Term) (sorts : List ℕ) → all_below sig (map sort_of args) sorts ≡ true → length args ≡ length sorts
+  pub are_even : (args : List Term) (sorts : List ℕ) → all_below sig (map sort_of args) sorts ≡ true → length args ≡ length sorts
   are_even [] [] e = refl
   are_even [] (s ∷ sorts) e = cc
   are_even (t ∷ args) [] e = cc
@@ -151,7 +151,7 @@ module _ (sig : Signature) (strands : List Strand) (instances : List Instance) w
       ∙ ap (option_map cause.Twice) ((apart_exactly (fresh_names strands instances)).0 are.apart)
 
   -- without a fault they are instances, where their terms are ground
-  pub starting_instances : AreGround instances → start_fault sig strands instances ≡ None → AreInstances canonical sig strands instances
+  pub starting_instances : AreGroundTerms sig instances → start_fault sig strands instances ≡ None → AreInstances canonical sig strands instances
   starting_instances ground e =
       let both = both_none (first_fault sig strands 0 instances) (option_map cause.Twice (first_again [] (fresh_names strands instances))) e in
       record {
@@ -159,7 +159,7 @@ module _ (sig : Signature) (strands : List Strand) (instances : List Instance) w
           strand = f.strand;
           there = f.there;
           sorts = f.sorts;
-          normal = λ t has. (ground n instance at t has, refl);
+          normal = λ t has. record { term = ground n instance at t has; normal = refl };
         };
         apart = (apart_exactly (fresh_names strands instances)).1 (never_twice (first_again [] (fresh_names strands instances)) both.1);
       }

@@ -1,7 +1,6 @@
 -- Aims, and the runs that reach them (attack patterns: Escobar, Meadows, Meseguer 2009).
 use Rattle.std.specs.Prelude.{◌≡◌, ℕ, ◌<◌, ◌≤◌, true, List, [], ◌∷◌, Some, map, length, slice_get, take, Contains}
 use Rattle.npa_term.specs.declared.term.Term.{Term}
-use Rattle.npa_term.specs.Variables.{IsGround}
 use Rattle.npa_term.specs.Canonical.{canonical}
 use Rattle.npa_sig.specs.declared.protocol.Protocol.{Protocol}
 use Rattle.npa_sig.specs.Signature.{Signature}
@@ -14,12 +13,12 @@ use Rattle.npa_model.specs.declared.run.Run.{Run}
 use Rattle.npa_model.specs.declared.run.Cause.{Cause}
 use Rattle.npa_model.specs.Values.{under}
 use Rattle.npa_model.specs.Runs.{Executes, BreaksAt, executions}
-use Rattle.npa_model.specs.Instances.{AreInstances, start_fault}
+use Rattle.npa_model.specs.Instances.{IsNormalTerm, AreInstances, start_fault}
 
 -- An assignment to the variables of an aim: a normal ground term for each, of a sort at or below.
 pub record Assigns (nf : Term → Term) (sig : Signature) (sorts : List ℕ) (values : List Term) : Type 0 where
   pub sorted : all_below sig (map sort_of values) sorts ≡ true
-  pub normal : (t : Term) → Contains values t → IsGround t × (nf t ≡ canonical t)
+  pub normal : (t : Term) → Contains values t → IsNormalTerm nf sig t
 
 module _ (nf : Term → Term) (run : Run) (sent values : List Term) where
   -- An instance of the run is what a strand part asks for: it is of the strand, has executed so many
@@ -62,7 +61,7 @@ pub record Misses (nf : Term → Term) (protocol : Protocol) (aim : Aim) (run : 
   pub runs : IsRun nf protocol run sent
   pub within : (1 ≤ k) × (k ≤ length aim.parts)
   pub fails : MeetsSomehow nf protocol.sig aim.sorts run sent (take k aim.parts) → ⊥
-  pub before : (j : ℕ) → j < k → MeetsSomehow nf protocol.sig aim.sorts run sent (take j aim.parts)
+  pub before : (j : ℕ) → 1 ≤ j → j < k → MeetsSomehow nf protocol.sig aim.sorts run sent (take j aim.parts)
 
 -- The run breaks at step j, where step 0 is the list of instances, for this cause.
 pub data Breaks (nf : Term → Term) (protocol : Protocol) (run : Run) : ℕ → Cause → Type 0 where

@@ -8,7 +8,7 @@ use Rattle.npa_term.specs.Variables.{IsGround}
 use Rattle.npa_term.specs.Canonical.{canonical}
 use Rattle.npa_sig.specs.declared.protocol.Strand.{Strand}
 use Rattle.npa_sig.specs.Signature.{Signature}
-use Rattle.npa_sig.specs.Sorting.{sort_of, is_below, all_below}
+use Rattle.npa_sig.specs.Sorting.{sort_of, is_below, all_below, well_sorted}
 use Rattle.npa_model.specs.declared.run.Instance.{Instance}
 use Rattle.npa_model.specs.declared.run.Cause.{Cause}
 use Rattle.npa_model.specs.declared.run.Cause.TheVariants as cause
@@ -20,17 +20,27 @@ use Rattle.npa_model.specs.State.{State}
 abbrev pub param_sorts : Strand → List ℕ
 param_sorts strand = strand.vars ++ replicate strand.fresh 1
 
+-- a ground term: well sorted and without variables
+pub record IsGroundTerm (sig : Signature) (t : Term) : Type 0 where
+  pub sorted : well_sorted sig t ≡ true
+  pub ground : IsGround t
+
+-- a normal ground term: its normal form is its canonical form
+pub record IsNormalTerm (nf : Term → Term) (sig : Signature) (t : Term) : Type 0 where
+  pub term : IsGroundTerm sig t
+  pub normal : nf t ≡ canonical t
+
 -- An instance is a strand with a normal ground term for each parameter, of a sort at or below the
--- parameter's. A term is normal where its normal form is its canonical form.
+-- parameter's.
 pub record IsInstance (nf : Term → Term) (sig : Signature) (strands : List Strand) (instance : Instance) : Type 0 where
   pub strand : Strand
   pub there : slice_get strands instance.strand ≡ Some strand
   pub sorts : all_below sig (map sort_of instance.args) (param_sorts strand) ≡ true
-  pub normal : (t : Term) → Contains instance.args t → IsGround t × (nf t ≡ canonical t)
+  pub normal : (t : Term) → Contains instance.args t → IsNormalTerm nf sig t
 
--- each term of each instance is ground
-abbrev pub AreGround : List Instance → Type 0
-AreGround instances = (k : ℕ) (instance : Instance) → slice_get instances k ≡ Some instance → (t : Term) → Contains instance.args t → IsGround t
+-- each term of each instance is ground and well sorted
+abbrev pub AreGroundTerms : Signature → List Instance → Type 0
+AreGroundTerms sig instances = (k : ℕ) (instance : Instance) → slice_get instances k ≡ Some instance → (t : Term) → Contains instance.args t → IsGroundTerm sig t
 
 abbrev pub name_in : Term → List ℕ
 name_in (Var v) = []

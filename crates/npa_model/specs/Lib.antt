@@ -4,3 +4,4 @@ pub mod State
 pub mod Instances
 pub mod Aims
 pub mod Sent
+pub mod WellFormed

@@ -12,7 +12,7 @@ ghost use Rattle.npa_model.specs.declared.run.Instance.{Instance};
 ghost use Rattle.npa_model.specs.declared.run.Run.{Run};
 ghost use Rattle.npa_model.specs.declared.run.Cause.{Cause};
 ghost use Rattle.npa_model.specs.Runs.{Happens, Executes, BreaksAt};
-ghost use Rattle.npa_model.specs.Instances.{AreApart, AreGround, AreInstances, first_again, start_fault};
+ghost use Rattle.npa_model.specs.Instances.{AreApart, AreGroundTerms, AreInstances, first_again, start_fault};
 ghost use Rattle.npa_model.specs.Aims.{IsRun, Reaches, Misses, Breaks};
 
 /// A step has one outcome, and a schedule that is executed sends one list of terms.
@@ -31,7 +31,7 @@ pub fn break_laws()
 pub fn instance_laws()
     ensures apart { (names : List ℕ) → AreApart names ↔ (first_again [] names ≡ None) }
     ensures faultless { (nf : Term → Term) (sig : Signature) (strands : List Strand) (instances : List Instance) → AreInstances nf sig strands instances → start_fault sig strands instances ≡ None }
-    ensures instances { (sig : Signature) (strands : List Strand) (instances : List Instance) → AreGround instances → start_fault sig strands instances ≡ None → AreInstances canonical sig strands instances }
+    ensures instances { (sig : Signature) (strands : List Strand) (instances : List Instance) → AreGroundTerms sig instances → start_fault sig strands instances ≡ None → AreInstances canonical sig strands instances }
 {}
 
 /// A run reaches an aim, breaks or misses a part, and no two of these. It breaks at one step, for

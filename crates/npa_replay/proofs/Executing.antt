@@ -14,13 +14,13 @@ use Rattle.npa_model.specs.declared.run.Cause.{Cause}
 use Rattle.npa_model.specs.declared.run.RunFail.{RunFail}
 use Rattle.npa_model.specs.declared.run.RunFail.TheVariants as run_fail
 use Rattle.npa_model.specs.Runs.{executions, Happens, no_instance, ended, unsent, receives, sends, Executes, begin, step, BreaksAt}
-use Rattle.npa_model.specs.Instances.{AreGround, Starts}
+use Rattle.npa_model.specs.Instances.{AreGroundTerms, Starts}
 use Rattle.npa_model.specs.Aims.{IsRun, at_start, at_step}
 use Rattle.npa_model.specs.State.{State, done_of, StepsTo, Steps}
 use Rattle.npa_model.proofs.InstanceLaws.{starting_instances}
 use Rattle.npa_replay.specs.declared.execution.Halt.{Halt}
 use Rattle.npa_replay.specs.declared.execution.Halt.TheVariants as halt
-use Rattle.npa_replay.specs.Executions.{IsAfter, Ends, RunsThrough, halted}
+use Rattle.npa_replay.specs.Executions.{IsAfter, Ends, HasRun, RunsThrough, halted}
 
 executions_push : (i k : ℕ) (xs : List ℕ) → executions i (xs ++ k ∷ []) ≡ executions i xs + cond (k == i) 1 0
 executions_push i k xs = fold_push (λ a x. a + cond (x == i) 1 0) 0 xs k
@@ -96,7 +96,7 @@ module _ (strands : List Strand) (instances : List Instance) where
       breaks = subst (λ (n : ℕ). Happens canonical strands instances n old.sent (slice_index schedule k) (Err why)) (after.counts (slice_index schedule k)) s.1;
     }
 
-module _ (protocol : Protocol) (run : Run) (ground : AreGround run.instances) where
+module _ (protocol : Protocol) (run : Run) (ground : AreGroundTerms protocol.sig run.instances) where
   pub starts_after : (state : State) → Starts protocol.sig protocol.strands run.instances (Ok state) → IsAfter canonical protocol.strands run.instances [] state
   starts_after state s = is_begun protocol.strands run.instances state s.1
 
@@ -105,10 +105,14 @@ module _ (protocol : Protocol) (run : Run) (ground : AreGround run.instances) wh
   stops_at_start (run_fail.Stop why) s = at_start why s
 
   module _ (begun state : State) (starts : Starts protocol.sig protocol.strands run.instances (Ok begun)) (schedule : List ℕ) (is : schedule ≡ run.schedule) where
-    pub is_run : IsAfter canonical protocol.strands run.instances schedule state → IsRun canonical protocol run state.sent
+    pub is_run : IsAfter canonical protocol.strands run.instances schedule state → HasRun canonical protocol run state
     is_run a = record {
-      instances = starting_instances protocol.sig protocol.strands run.instances ground starts.0;
-      executes = subst (λ (xs : List ℕ). Executes canonical protocol.strands run.instances xs state.sent) is a.executes;
+      runs = record {
+        instances = starting_instances protocol.sig protocol.strands run.instances ground starts.0;
+        executes = subst (λ (xs : List ℕ). Executes canonical protocol.strands run.instances xs state.sent) is a.executes;
+      };
+      each = a.each;
+      counts = λ i. a.counts i ∙ ap (executions i) is;
     }
 
     pub is_broken : (h : Halt) → Ends canonical protocol.strands run.instances schedule state (Err h) → RunsThrough canonical protocol run (Err h)

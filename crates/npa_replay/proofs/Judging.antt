@@ -1,109 +1,142 @@
--- The parts of an aim without variables are met exactly where their terms were sent.
-use Rattle.std.proofs.Common.{◌≡◌, ℕ, zero, suc, ◌+◌, ◌<◌, ◌≤◌, ⊎_elim, true, List, [], ◌∷◌, Option, None, Some, Result, Ok, Err, IfOk, refl, ap, sym, ◌∙◌, subst, map, slice_get, take, length, arith}
-use Rattle.std.proofs.lemmas.Bool.{cases_lt}
-use Rattle.std.proofs.lemmas.List.{take_all}
-use Rattle.std.proofs.lemmas.Option.{same_Some, none-some, slice_get_within}
+-- What the search for the parts of an aim says of the run.
+use Rattle.std.specs.Prelude.{◌⊎◌}
+use Rattle.std.proofs.Common.{◌≡◌, ℕ, zero, suc, ◌+◌, ◌<◌, ◌≤◌, ⊎_elim, true, List, [], ◌∷◌, Option, None, Some, Result, Ok, Err, IfOk, refl, ap, sym, ◌∙◌, subst, slice_get, take, drop, length, Contains, arith}
+use Rattle.std.proofs.lemmas.List.{take_all, take-append-drop}
+use Rattle.std.proofs.lemmas.Bool.{cases_lt, cases_order}
+use Rattle.std.proofs.lemmas.Option.{same_Some, none-some, slice_get-get_or}
+use Rattle.std.proofs.lemmas.List.Elements.{Contains-append_left, Contains-append_right}
+use Rattle.npa_sorts.proofs.Climbs.{decides}
+use Rattle.npa_term.specs.declared.error.NoMemory.{NoMemory}
 use Rattle.npa_term.specs.declared.term.Term.{Term}
 use Rattle.npa_term.specs.Canonical.{canonical}
 use Rattle.npa_sig.specs.declared.protocol.Protocol.{Protocol}
 use Rattle.npa_sig.specs.Signature.{Signature}
-use Rattle.npa_sig.specs.Sorting.{sort_of, all_below}
+use Rattle.npa_sig.specs.Sorting.{is_sort}
+use Rattle.npa_sig.specs.declared.fault.LeastFail.TheVariants.{Past}
+use Rattle.npa_sig.specs.Least.{IsTermOf, IsLeastOf}
 use Rattle.npa_model.specs.declared.aim.Part.{Part}
-use Rattle.npa_model.specs.declared.aim.Part.TheVariants as part
 use Rattle.npa_model.specs.declared.aim.Aim.{Aim}
 use Rattle.npa_model.specs.declared.run.Run.{Run}
-use Rattle.npa_model.specs.Aims.{Meets, nothing, known, strand, MeetsSomehow, IsRun, Reaches, Misses}
-use Rattle.npa_model.proofs.AimLaws.{runs_or_breaks, breaks_once, reaches_or_misses, misses_once}
-use Rattle.npa_term.specs.declared.error.NoMemory.{NoMemory}
+use Rattle.npa_model.specs.WellFormed.{AreSorts, IsWellFormedPart, IsWellFormedProtocol, IsWellFormedAim}
+use Rattle.npa_model.specs.Instances.{IsGroundTerm, IsNormalTerm}
+use Rattle.npa_model.specs.Aims.{Meets, MeetsSomehow, IsRun, Reaches, Misses}
+use Rattle.npa_model.specs.State.{State}
+use Rattle.npa_model.proofs.AimLaws.{meets_front, runs_or_breaks, breaks_once, reaches_or_misses, misses_once}
+use Rattle.npa_model.proofs.SentTerms.{sent_terms}
+use Rattle.npa_model.proofs.SortedTerms.{below_at, contained}
 use Rattle.npa_replay.specs.declared.execution.Halt.{Halt}
 use Rattle.npa_replay.specs.declared.execution.Halt.TheVariants as halt
-use Rattle.npa_replay.specs.Executions.{RunsThrough}
+use Rattle.npa_replay.specs.Executions.{HasRun, RunsThrough}
+use Rattle.npa_replay.specs.Choices.{HasGroundTerm, HaveGroundTerms, HasMatcher, Can, IsMost}
 use Rattle.npa_replay.specs.declared.answer.Replay.{Replay}
 use Rattle.npa_replay.specs.declared.answer.Replay.TheVariants as replay
-use Rattle.npa_replay.specs.Replays.{IsTrueOf, IsKnown, AreKnown, Stops}
-use Rattle.npa_replay.specs.Parts.{IsSent, AreSent, IsFirstUnsent, FindsUnsent}
+use Rattle.npa_replay.specs.Replays.{IsTrueOf, Stops}
+use Rattle.npa_replay.proofs.Meeting.{met_somehow, somehow_met}
+use Rattle.npa_replay.proofs.Choosing.{front_front}
 
--- the next part is among those that were sent, or it is the first that wasn't
-module _ (sent : List Term) (parts : List Part) (k : ℕ) (others : AreSent sent parts k) (p : Part) (there : slice_get parts k ≡ Some p) where
-  pub one_more_sent : IsSent sent p → AreSent sent parts (k + 1)
-  one_more_sent was j q l at = ⊎_elim
-      (λ (m : j < k). others j q m at)
-      (λ (m : k ≤ j).
-      let same : k ≡ j = omega arith in
-      subst (λ (r : Part). IsSent sent r) (same_Some p q (sym there ∙ ap (slice_get parts) same ∙ at)) was)
-      (cases_lt j k)
+taken_member : (n : ℕ) (ps : List Part) (p : Part) → Contains (take n ps) p → Contains ps p
+taken_member n ps p h = subst (λ (qs : List Part). Contains qs p) (take-append-drop n ps) (Contains-append_left (take n ps) (drop n ps) p h)
 
-  pub first_missed : (IsSent sent p → ⊥) → IsFirstUnsent sent parts (k + 1)
-  first_missed wasnt = record {
-    before = k;
-    place = refl;
-    unsent = p;
-    there = there;
-    missed = wasnt;
-    others = others;
+-- an assignment has a ground term for each sort
+assigned_terms : (sig : Signature) (sorts : List ℕ) (run : Run) (sent : List Term) (parts : List Part) → MeetsSomehow canonical sig sorts run sent parts → HaveGroundTerms sig sorts
+assigned_terms sig sorts run sent parts m = record {
+  each = λ i s at.
+      let x = below_at sig m.values sorts m.assigns.sorted i s at in
+      record { term = x.term; good = (m.assigns.normal x.term (contained sig m.values i x.term x.there)).term; below = x.below };
+}
+
+module _ (protocol : Protocol) (formed : IsWellFormedProtocol protocol) (aim : Aim) (good : IsWellFormedAim protocol.sig protocol.strands aim) (run : Run) (state : State) (has : HasRun canonical protocol run state) where
+  part_formed : (n : ℕ) (p : Part) → Contains (take n aim.parts) p → IsWellFormedPart protocol.sig protocol.strands aim.sorts p
+  part_formed n p h = good.parts p (taken_member n aim.parts p h)
+
+  somehow : HaveGroundTerms protocol.sig aim.sorts → (n : ℕ) → Can run.instances state (HasMatcher protocol.sig.sorts) (take n aim.parts) [] [] → MeetsSomehow canonical protocol.sig aim.sorts run state.sent (take n aim.parts)
+  somehow have n c = met_somehow protocol.sig protocol.strands aim.sorts run state has.runs.instances.each
+      (sent_terms protocol.sig formed.signature protocol.strands formed.strands run.instances has.runs.instances.each has.runs.executes) has.counts
+      (take n aim.parts) (part_formed n) have.each c
+
+  -- each part is met
+  pub reaches : HaveGroundTerms protocol.sig aim.sorts → (most : ℕ) → IsMost run.instances state protocol.sig.sorts aim.parts [] [] most → most ≡ length aim.parts → Reaches canonical protocol aim run
+  reaches have most is e = record {
+    sent = state.sent;
+    runs = has.runs;
+    meets = subst (λ (ps : List Part). MeetsSomehow canonical protocol.sig aim.sorts run state.sent ps) (take_all most aim.parts (omega (arith, e))) (somehow have most is.met);
   }
 
-part_front : (n : ℕ) (parts : List Part) (k : ℕ) → k < n → slice_get (take n parts) k ≡ slice_get parts k
-part_front zero parts k l = absurd (omega arith)
-part_front (suc n) [] k l = refl
-part_front (suc n) (p ∷ parts) zero l = refl
-part_front (suc n) (p ∷ parts) (suc k) l = part_front n parts k (omega arith)
+  -- the part behind those that are met is missed
+  pub misses : HaveGroundTerms protocol.sig aim.sorts → (most : ℕ) → IsMost run.instances state protocol.sig.sorts aim.parts [] [] most → (most ≡ length aim.parts → ⊥) → Misses canonical protocol aim run (most + 1)
+  misses have most is other =
+      let short : most < length aim.parts = strictly most (length aim.parts) is.within other in
+      record {
+        sent = state.sent;
+        runs = has.runs;
+        within = (omega arith, omega (arith, short));
+        fails = λ m. is.missed short (somehow_met protocol.sig protocol.strands aim.sorts run state has.runs.instances.each
+            (sent_terms protocol.sig formed.signature protocol.strands formed.strands run.instances has.runs.instances.each has.runs.executes) has.counts
+            (take (most + 1) aim.parts) (part_formed (most + 1)) m);
+        before = λ j first l.
+            let m = somehow have most is.met in
+            let f = meets_front canonical run state.sent m.values m.meets j in
+            record {
+              values = m.values;
+              assigns = m.assigns;
+              chosen = f.front;
+              meets = subst (λ (ps : List Part). Meets canonical run state.sent m.values ps f.front) (front_front j most aim.parts (omega (arith, l))) f.meets;
+            };
+      }
+    where
+      strictly : (a b : ℕ) → a ≤ b → (a ≡ b → ⊥) → a < b
+      strictly a b l n = ⊎_elim (λ (e : a ≡ b). absurd (n e)) (λ o. ⊎_elim (λ (p : a < b). p) (λ (p : b < a). let no : ⊥ = omega (arith, l, p) in absurd no) o) (cases_order a b)
 
-no_values : (sig : Signature) (values : List Term) → all_below sig (map sort_of values) [] ≡ true → values ≡ []
-no_values sig [] e = refl
-no_values sig (t ∷ values) e = cc
-
-module _ (run : Run) (sent : List Term) where
-  meets_sent : (parts : List Part) (n : ℕ) → AreSent sent parts n → Meets canonical run sent [] (take n parts) []
-  meets_sent parts zero each = nothing
-  meets_sent [] (suc n) each = nothing
-  meets_sent (part.Known t ∷ parts) (suc n) each =
-      known t (take n parts) [] (each 0 (part.Known t) (omega arith) refl) (meets_sent parts n (λ k p l. each (suc k) p (omega arith)))
-  meets_sent (part.Strand number bar args ∷ parts) (suc n) each = absurd (each 0 (part.Strand number bar args) (omega arith) refl)
-
-  sent_where_met : {parts : List Part} {chosen : List ℕ} → Meets canonical run sent [] parts chosen → (k : ℕ) (p : Part) → slice_get parts k ≡ Some p → IsKnown p → IsSent sent p
-  sent_where_met nothing k p at is = absurd (none-some p at)
-  sent_where_met (known t parts chosen was m) zero p at is = subst (λ (q : Part). IsSent sent q) (same_Some (part.Known t) p at) was
-  sent_where_met (known t parts chosen was m) (suc k) p at is = sent_where_met m k p at is
-  sent_where_met (strand number bar args parts n chosen plays new m) zero p at is = absurd (subst (λ (q : Part). IsKnown q) (sym (same_Some (part.Strand number bar args) p at)) is)
-  sent_where_met (strand number bar args parts n chosen plays new m) (suc k) p at is = sent_where_met m k p at is
-
-  module _ (sig : Signature) where
-    somehow : (parts : List Part) (n : ℕ) → AreSent sent parts n → MeetsSomehow canonical sig [] run sent (take n parts)
-    somehow parts n each = record {
-      values = [];
-      assigns = record { sorted = refl; normal = λ t has. absurd (omega (arith, has.1)) };
-      chosen = [];
-      meets = meets_sent parts n each;
-    }
-
-    sent_somehow : (parts : List Part) (k : ℕ) (p : Part) → MeetsSomehow canonical sig [] run sent (take (k + 1) parts) → slice_get parts k ≡ Some p → IsKnown p → IsSent sent p
-    sent_somehow parts k p m at is =
-        sent_where_met (subst (λ (vs : List Term). Meets canonical run sent vs (take (k + 1) parts) m.chosen) (no_values sig m.values m.assigns.sorted) m.meets) k p (part_front (k + 1) parts k (omega arith) ∙ at) is
-
-module _ (protocol : Protocol) (aim : Aim) (run : Run) (closed : aim.sorts ≡ []) (sent : List Term) (runs : IsRun canonical protocol run sent) where
-  at_sorts : (parts : List Part) → MeetsSomehow canonical protocol.sig [] run sent parts → MeetsSomehow canonical protocol.sig aim.sorts run sent parts
-  at_sorts parts m = subst (λ (ss : List ℕ). MeetsSomehow canonical protocol.sig ss run sent parts) (sym closed) m
-
-  pub reaches : AreSent sent aim.parts (length aim.parts) → Reaches canonical protocol aim run
-  reaches each = record {
-    sent = sent;
-    runs = runs;
-    meets = subst (λ (ps : List Part). MeetsSomehow canonical protocol.sig aim.sorts run sent ps) (take_all (length aim.parts) aim.parts (omega arith))
-        (at_sorts (take (length aim.parts) aim.parts) (somehow run sent protocol.sig aim.parts (length aim.parts) each));
+  -- where some sort has no ground term nothing meets the first part
+  pub misses_first : (HaveGroundTerms protocol.sig aim.sorts → ⊥) → Misses canonical protocol aim run 1
+  misses_first none = record {
+    sent = state.sent;
+    runs = has.runs;
+    within = (omega arith, good.has_parts);
+    fails = λ m. none (assigned_terms protocol.sig aim.sorts run state.sent (take 1 aim.parts) m);
+    before = λ j first l. let no : ⊥ = omega (arith, first, l) in absurd no;
   }
 
-  misses_next : AreKnown aim.parts → (n : ℕ) (p : Part) → slice_get aim.parts n ≡ Some p → (IsSent sent p → ⊥) → AreSent sent aim.parts n → Misses canonical protocol aim run (n + 1)
-  misses_next each n p there missed others = record {
-    sent = sent;
-    runs = runs;
-    within = (omega arith, omega (arith, slice_get_within aim.parts n p there));
-    fails = λ m. missed (sent_somehow run sent protocol.sig aim.parts n p (subst (λ (ss : List ℕ). MeetsSomehow canonical protocol.sig ss run sent (take (n + 1) aim.parts)) closed m) there (each n p there));
-    before = λ j l. at_sorts (take j aim.parts) (somehow run sent protocol.sig aim.parts j (λ k q m. others k q (omega arith)));
-  }
+-- the words of the least terms
+module _ (sig : Signature) (s : ℕ) where
+  pub term_of : HasGroundTerm sig s → (t : Term) × IsTermOf sig s t
+  term_of h = (h.term, record { sorted = h.good.sorted; ground = h.good.ground; below = (decides sig.sorts _ s).0 h.below })
 
-  pub misses : AreKnown aim.parts → (k : ℕ) → IsFirstUnsent sent aim.parts k → Misses canonical protocol aim run k
-  misses each k f = subst (λ (n : ℕ). Misses canonical protocol aim run n) (sym f.place) (misses_next each f.before f.unsent f.there f.missed f.others)
+  pub from_term_of : (t : Term) → IsTermOf sig s t → HasGroundTerm sig s
+  from_term_of t is = record { term = t; good = record { sorted = is.sorted; ground = is.ground }; below = (decides sig.sorts _ s).1 is.below }
+
+  pub from_least : (t : Term) → IsLeastOf sig s (Ok (Some t)) → HasGroundTerm sig s
+  from_least t is = from_term_of t is.0.is
+
+  pub from_past : (n : ℕ) → IsLeastOf sig s (Err (Past n)) → HasGroundTerm sig s
+  from_past n is = from_term_of is.1.term is.1.reached
+
+  pub none_wanted : (sorts : List ℕ) → Contains sorts s → ((t : Term) → IsTermOf sig s t → ⊥) → HaveGroundTerms sig sorts → ⊥
+  none_wanted sorts h empty have =
+      let x = term_of (have.each h.0 s (slice_get-get_or sorts h.0 s h.1 ∙ ap Some h.2)) in
+      empty x.0 x.1
+
+pub all_have : (sig : Signature) (sorts : List ℕ) (n : ℕ) → AreSorts sig sorts → sig.sorts.declared + 2 ≤ n → ((s : ℕ) → s < n → Contains sorts s → HasGroundTerm sig s) → HaveGroundTerms sig sorts
+all_have sig sorts n are l each = record {
+  each = λ i s at.
+      let h : Contains sorts s = there sorts i s at in
+      let small : s < sig.sorts.declared + 2 = below (are s h) in
+      each s (omega (arith, small, l)) h;
+}
+  where
+    below : {s : ℕ} → is_sort sig s ≡ true → s < sig.sorts.declared + 2
+    below e = grind arith
+
+    there : (xs : List ℕ) (i s : ℕ) → slice_get xs i ≡ Some s → Contains xs s
+    there [] i s e = absurd (none-some s e)
+    there (x ∷ xs) zero s e = (0, omega arith, same_Some x s e)
+    there (x ∷ xs) (suc i) s e = Contains-append_right (x ∷ []) xs s (there xs i s e)
+
+pub one_more_has : (sig : Signature) (sorts : List ℕ) (n : ℕ) → ((s : ℕ) → s < n → Contains sorts s → HasGroundTerm sig s) → (Contains sorts n → HasGroundTerm sig n) → (s : ℕ) → s < n + 1 → Contains sorts s → HasGroundTerm sig s
+one_more_has sig sorts n before here s l h = ⊎_elim
+    (λ (a : s < n). before s a h)
+    (λ (a : n ≤ s). let same : n ≡ s = omega (arith, a, l) in subst (λ k. HasGroundTerm sig k) same (here (subst (λ k. Contains sorts k) (sym same) h)))
+    (cases_lt s n)
 
 -- no two answers are true of one run
 module _ (nf : Term → Term) (protocol : Protocol) (aim : Aim) (run : Run) where
@@ -132,13 +165,3 @@ module _ (protocol : Protocol) (aim : Aim) (run : Run) where
   pub only_true : (result : Result Replay NoMemory) → IfOk result (λ answer. IsTrueOf canonical protocol aim run answer) → IfOk result (λ answer. (other : Replay) → IsTrueOf canonical protocol aim run other → other ≡ answer)
   only_true (Ok answer) x = λ other y. one_answer canonical protocol aim run other answer y x
   only_true (Err e) x = tt
-
-  module _ (closed : aim.sorts ≡ []) (each : AreKnown aim.parts) (sent : List Term) (runs : IsRun canonical protocol run sent) (parts : List Part) (are : parts ≡ aim.parts) (found : Option ℕ) (finds : FindsUnsent sent parts found) where
-    finds_there : (o : Option ℕ) → found ≡ o → FindsUnsent sent aim.parts o
-    finds_there o is = subst (λ (p : Option ℕ). FindsUnsent sent aim.parts p) is (subst (λ (ps : List Part). FindsUnsent sent ps found) are finds)
-
-    pub judged_misses : (k : ℕ) → found ≡ Some k → Misses canonical protocol aim run k
-    judged_misses k is = misses protocol aim run closed sent runs each k (finds_there (Some k) is)
-
-    pub judged_reaches : found ≡ None → Reaches canonical protocol aim run
-    judged_reaches is = reaches protocol aim run closed sent runs (finds_there None is)

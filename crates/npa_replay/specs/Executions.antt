@@ -26,9 +26,15 @@ Ends nf strands instances schedule state (Ok _) = IsAfter nf strands instances s
 Ends nf strands instances schedule state (Err (halt.Break j why)) = BreaksAt nf strands instances schedule j why
 Ends nf strands instances schedule state (Err halt.NoMemory) = Unit {0}
 
--- it is a run that sends the state's terms, or it breaks
+-- It is a run that sends the state's terms, and its events are counted.
+pub record HasRun (nf : Term → Term) (protocol : Protocol) (run : Run) (state : State) : Type 0 where
+  pub runs : IsRun nf protocol run state.sent
+  pub each : length state.executed ≡ length run.instances
+  pub counts : (i : ℕ) → done_of state i ≡ executions i run.schedule
+
+-- it is a run, or it breaks
 abbrev pub RunsThrough : (Term → Term) → Protocol → Run → Result State Halt → Type 0
-RunsThrough nf protocol run (Ok state) = IsRun nf protocol run state.sent
+RunsThrough nf protocol run (Ok state) = HasRun nf protocol run state
 RunsThrough nf protocol run (Err (halt.Break j why)) = Breaks nf protocol run j why
 RunsThrough nf protocol run (Err halt.NoMemory) = Unit {0}
 

@@ -1,3 +1,3 @@
 pub mod Replays
 pub mod Executions
-pub mod Parts
+pub mod Choices

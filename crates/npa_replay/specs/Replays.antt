@@ -1,11 +1,9 @@
 -- What the answer of a replay says.
-use Rattle.std.specs.Prelude.{◌≡◌, ℕ, List, Some, Result, Ok, Err, slice_get}
+use Rattle.std.specs.Prelude.{◌≡◌, Result, Ok, Err}
 use Rattle.npa_term.specs.declared.error.NoMemory.{NoMemory}
 use Rattle.npa_term.specs.declared.term.Term.{Term}
 use Rattle.npa_sig.specs.declared.protocol.Protocol.{Protocol}
 use Rattle.npa_model.specs.declared.aim.Aim.{Aim}
-use Rattle.npa_model.specs.declared.aim.Part.{Part}
-use Rattle.npa_model.specs.declared.aim.Part.TheVariants as part
 use Rattle.npa_model.specs.declared.run.Run.{Run}
 use Rattle.npa_model.specs.Aims.{Reaches, Breaks, Misses}
 use Rattle.npa_replay.specs.declared.execution.Halt.{Halt}
@@ -19,15 +17,6 @@ abbrev pub IsTrueOf : (Term → Term) → Protocol → Aim → Run → Replay �
 IsTrueOf nf protocol aim run replay.Reaches = Reaches nf protocol aim run
 IsTrueOf nf protocol aim run (replay.Stops j why) = Breaks nf protocol run j why
 IsTrueOf nf protocol aim run (replay.Misses k) = Misses nf protocol aim run k
-
--- the part is a term that is to be sent
-abbrev pub IsKnown : Part → Type 0
-IsKnown (part.Known t) = Unit {0}
-IsKnown (part.Strand strand bar args) = ⊥
-
--- each part of an aim is known
-abbrev pub AreKnown : List Part → Type 0
-AreKnown parts = (k : ℕ) (p : Part) → slice_get parts k ≡ Some p → IsKnown p
 
 -- the answer about a run that breaks: the step and the cause
 abbrev pub Stops : Halt → Result Replay NoMemory → Type 0

@@ -1,8 +1,7 @@
-ghost use Rattle.std.specs.Prelude.{◌≡◌, ◌<◌, ◌^◌, ℕ, [], Some, length, slice_get};
+ghost use Rattle.std.specs.Prelude.{◌≡◌, ◌<◌, ◌^◌, [], length};
 ghost use Rattle.npa_term.specs.Canonical.{canonical};
-ghost use Rattle.npa_sig.specs.declared.protocol.Strand.{Strand};
 ghost use Rattle.npa_model.specs.State.{AreCountable};
-ghost use Rattle.npa_model.specs.Instances.{AreGround, param_sorts};
+ghost use Rattle.npa_model.specs.WellFormed.{IsWellFormedProtocol, IsWellFormedRun};
 ghost use Rattle.npa_replay.specs.Executions.{IsAfter, Ends, RunsThrough, halted};
 
 use npa_model::{Cause, Instances, Run, RunFail, RunState, step_run};
@@ -19,11 +18,8 @@ pub(crate) enum Halt {
 
 /// Begins the run and executes its schedule: the state in which it ends.
 pub(crate) fn run_through(alloc: Global, protocol: &Protocol, run: &Run) -> Result<RunState, Halt>
-    requires ground { AreGround run.now.instances }
-    requires few_instances { length run.now.instances < 2 ^ 32 }
-    requires few_steps { length run.now.schedule < 2 ^ 32 }
-    requires params { (k : ℕ) (strand : Strand) → slice_get protocol.now.strands k ≡ Some strand → length (param_sorts strand) < 2 ^ 16 }
-    requires countable { AreCountable protocol.now.strands }
+    requires protocol { IsWellFormedProtocol protocol.now }
+    requires run { IsWellFormedRun protocol.now.sig run.now }
     ensures { RunsThrough canonical protocol.now run.now result }
 {
     let mut state = match RunState::start(alloc, protocol, &run.instances) {

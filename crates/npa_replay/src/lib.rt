@@ -3,9 +3,13 @@
 #![tactic(auto)]
 
 mod answer;
+mod candidates;
+mod choice;
 mod execution;
-mod parts;
+mod inhabited;
 mod replaying;
+mod scene;
+mod search;
 
 pub use answer::Replay;
 pub use replaying::replay;

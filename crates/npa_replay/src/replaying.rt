@@ -1,30 +1,30 @@
-ghost use Rattle.std.specs.Prelude.{◌≡◌, ◌<◌, ◌^◌, ℕ, [], Some, length, slice_get, IfOk};
+ghost use Rattle.std.specs.Prelude.{◌≡◌, ◌<◌, ◌^◌, [], length, IfOk};
 ghost use Rattle.npa_term.specs.Canonical.{canonical};
-ghost use Rattle.npa_sig.specs.declared.protocol.Strand.{Strand};
-ghost use Rattle.npa_model.specs.State.{AreCountable};
-ghost use Rattle.npa_model.specs.Instances.{AreGround, param_sorts};
-ghost use Rattle.npa_replay.specs.Replays.{IsTrueOf, AreKnown, Stops};
+ghost use Rattle.npa_model.specs.WellFormed.{IsWellFormedProtocol, IsWellFormedAim, IsWellFormedRun};
+ghost use Rattle.npa_replay.specs.Choices.{IsMost};
+ghost use Rattle.npa_replay.specs.Replays.{IsTrueOf, Stops};
 
 use crate::answer::Replay;
+use crate::candidates::all_candidates;
+use crate::choice::Choice;
 use crate::execution::{Halt, run_through};
-use crate::parts::first_unsent;
-use npa_model::{Aim, Run};
+use crate::inhabited::have_ground_terms;
+use crate::scene::Scene;
+use crate::search::most_met;
+use npa_model::{Aim, Run, RunState};
 use npa_sig::Protocol;
 use npa_term::NoMemory;
 use std::alloc::Global;
 
-/// Replays a run against an aim of known terms. The instances are judged first, then each step of
-/// the schedule, then the parts of the aim, each in its order; the first fault is answered. A run
-/// that reaches the aim, breaks or misses a part does just one of these.
+/// Replays a run against an aim. The instances are judged first, then each step of the schedule,
+/// then the parts of the aim, each in its order; the first fault is answered. A part is missed
+/// where no ground terms for the aim's variables and no choice of different instances meet it
+/// beside the parts before it. A run that reaches the aim, breaks or misses a part does just one of
+/// these.
 pub fn replay(alloc: Global, protocol: &Protocol, aim: &Aim, run: &Run) -> Result<Replay, NoMemory>
-    requires no_variables { aim.now.sorts ≡ [] }
-    requires known { AreKnown aim.now.parts }
-    requires ground { AreGround run.now.instances }
-    requires few_instances { length run.now.instances < 2 ^ 32 }
-    requires few_steps { length run.now.schedule < 2 ^ 32 }
-    requires few_parts { length aim.now.parts < 2 ^ 16 }
-    requires params { (k : ℕ) (strand : Strand) → slice_get protocol.now.strands k ≡ Some strand → length (param_sorts strand) < 2 ^ 16 }
-    requires countable { AreCountable protocol.now.strands }
+    requires protocol { IsWellFormedProtocol protocol.now }
+    requires aim { IsWellFormedAim protocol.now.sig protocol.now.strands aim.now }
+    requires run { IsWellFormedRun protocol.now.sig run.now }
     ensures answer { IfOk result (λ answer. IsTrueOf canonical protocol.now aim.now run.now answer) }
     ensures only { IfOk result (λ answer. (other : Replay) → IsTrueOf canonical protocol.now aim.now run.now other → other ≡ answer) }
 {
@@ -32,10 +32,39 @@ pub fn replay(alloc: Global, protocol: &Protocol, aim: &Aim, run: &Run) -> Resul
         Ok(state) => state,
         Err(halt) => return stopped(halt),
     };
-    match first_unsent(alloc, &state, aim.parts.as_slice())? {
-        Some(part) => Ok(Replay::Misses { part }),
-        None => Ok(Replay::Reaches),
+    if !have_ground_terms(alloc, &protocol.sig, aim.sorts.as_slice())? {
+        return Ok(Replay::Misses { part: 1 });
     }
+    let met = parts_met(alloc, protocol, aim, run, &state)?;
+    if met == aim.parts.len() {
+        return Ok(Replay::Reaches);
+    }
+    Ok(Replay::Misses {
+        part: met as u16 + 1,
+    })
+}
+
+// How many parts of the aim can be met one after another in the state in which the run ends.
+fn parts_met(
+    alloc: Global,
+    protocol: &Protocol,
+    aim: &Aim,
+    run: &Run,
+    state: &RunState,
+) -> Result<usize, NoMemory>
+    requires few { length run.now.instances < 2 ^ 32 }
+    requires counted { length state.now.executed ≡ length run.now.instances }
+    ensures { IfOk result (λ most. IsMost run.now.instances state.now protocol.now.sig.sorts aim.now.parts [] [] most) }
+{
+    let scene = Scene {
+        sorts: protocol.sig.sorts(),
+        instances: &run.instances,
+        state,
+        parts: aim.parts.as_slice(),
+    };
+    let candidates = all_candidates(alloc, &scene)?;
+    let mut choice = Choice::new(alloc);
+    most_met(alloc, &scene, candidates.as_slice(), 0, &mut choice)
 }
 
 // The answer about a run that breaks.

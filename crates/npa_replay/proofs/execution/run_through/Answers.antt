@@ -7,15 +7,18 @@ use Rattle.npa_replay.proofs.execution.run_through.Goals as goal
 
 pub returns-in-Err : goal.returns-in-Err
 returns-in-Err c =
-    subst (λ (h : Halt). RunsThrough canonical c.args.protocol.now c.args.run.now (Err h)) (sym c.halted.ensures) (stops_at_start c.args.protocol.now c.args.run.now c.requires.ground c.in-Err.fail c.in-Err.ensures)
+    subst (λ (h : Halt). RunsThrough canonical c.args.protocol.now c.args.run.now (Err h)) (sym c.halted.ensures) (stops_at_start c.args.protocol.now c.args.run.now c.requires.run.terms c.in-Err.fail c.in-Err.ensures)
 
 pub execute-requires-clause-begun : goal.execute-requires-clause-begun
-execute-requires-clause-begun c = starts_after c.args.protocol.now c.args.run.now c.requires.ground c.in-Ok.state c.in-Ok.ensures
+execute-requires-clause-begun c = starts_after c.args.protocol.now c.args.run.now c.requires.run.terms c.in-Ok.state c.in-Ok.ensures
 
 pub returns-in-Ok-execute : goal.returns-in-Ok-execute
 returns-in-Ok-execute c =
-    is_run c.args.protocol.now c.args.run.now c.requires.ground c.in-Ok.state c.execute.new.state c.in-Ok.ensures c.as_slice.result.now c.as_slice.ensures c.in-Ok-execute.ensures
+    is_run c.args.protocol.now c.args.run.now c.requires.run.terms c.in-Ok.state c.execute.new.state c.in-Ok.ensures c.as_slice.result.now c.as_slice.ensures c.in-Ok-execute.ensures
 
 pub returns-in-Err-execute : goal.returns-in-Err-execute
 returns-in-Err-execute c =
-    is_broken c.args.protocol.now c.args.run.now c.requires.ground c.in-Ok.state c.execute.new.state c.in-Ok.ensures c.as_slice.result.now c.as_slice.ensures c.in-Err-execute.halt c.in-Err-execute.ensures
+    is_broken c.args.protocol.now c.args.run.now c.requires.run.terms c.in-Ok.state c.execute.new.state c.in-Ok.ensures c.as_slice.result.now c.as_slice.ensures c.in-Err-execute.halt c.in-Err-execute.ensures
+
+pub start-requires-clause-params : goal.start-requires-clause-params
+start-requires-clause-params c k strand there = (c.requires.protocol.strands k strand there).params

@@ -1,0 +1,68 @@
+ghost use Rattle.std.specs.Prelude.{◌≡◌, ◌<◌, ◌^◌, ℕ, [], false, length, IsTrue, IfOk};
+ghost use Rattle.npa_replay.specs.Choices.{AreAllCandidates, AreCandidates, HasMatch, IsTarget, target_pairs};
+
+use crate::scene::{Scene, add_pairs, is_target};
+use npa_list::List;
+use npa_match::find;
+use npa_model::Part;
+use npa_term::{NoMemory, Term};
+use std::alloc::Global;
+
+/// For each part of an aim the targets that its terms match by themselves.
+pub(crate) fn all_candidates(alloc: Global, scene: &Scene<'_>) -> Result<Vec<List<usize>>, NoMemory>
+    requires few { length scene.now.instances.now < 2 ^ 32 }
+    requires counted { length scene.now.state.now.executed ≡ length scene.now.instances.now }
+    ensures { IfOk result (λ all. AreAllCandidates scene.now.instances.now scene.now.state.now scene.now.sorts.now scene.now.parts.now all.items) }
+{
+    let mut all = Vec::with_capacity(alloc, scene.parts.len())?;
+    for part in scene.parts {
+        all.push(candidates(alloc, scene, part)?)?;
+    }
+    Ok(all)
+}
+
+// The targets that the part's terms match.
+fn candidates(alloc: Global, scene: &Scene<'_>, part: &Part) -> Result<List<usize>, NoMemory>
+    requires few { length scene.now.instances.now < 2 ^ 32 }
+    requires counted { length scene.now.state.now.executed ≡ length scene.now.instances.now }
+    ensures { IfOk result (λ found. AreCandidates scene.now.instances.now scene.now.state.now scene.now.sorts.now part.now found) }
+{
+    let mut found = List::new(alloc);
+    for place in 0..numbers(scene, part) {
+        if is_candidate(alloc, scene, part, place)? {
+            found.push(place)?;
+        }
+    }
+    Ok(found)
+}
+
+// Past the numbers of a part's targets.
+fn numbers(scene: &Scene<'_>, part: &Part) -> usize
+    ensures { (n : ℕ) → IsTarget scene.now.instances.now scene.now.state.now part.now n → n < result }
+{
+    match part {
+        Part::Known(_) => scene.state.sent().len(),
+        Part::Strand { .. } => scene.instances.len(),
+    }
+}
+
+// Whether the number is that of a target that the part's terms match.
+fn is_candidate(
+    alloc: Global,
+    scene: &Scene<'_>,
+    part: &Part,
+    place: usize,
+) -> Result<bool, NoMemory>
+    requires few { length scene.now.instances.now < 2 ^ 32 }
+    requires counted { length scene.now.state.now.executed ≡ length scene.now.instances.now }
+    ensures target { IfOk result (λ b. IsTrue b → IsTarget scene.now.instances.now scene.now.state.now part.now place) }
+    ensures other { IfOk result (λ b. b ≡ false → IsTarget scene.now.instances.now scene.now.state.now part.now place → HasMatch scene.now.sorts.now (target_pairs scene.now.instances.now scene.now.state.now part.now place) → ⊥) }
+{
+    if !is_target(scene, part, place) {
+        return Ok(false);
+    }
+    let mut pairs = List::new(alloc);
+    add_pairs(alloc, &mut pairs, scene, part, place)?;
+    let found = find(alloc, scene.sorts, &pairs)?;
+    Ok(found.is_some())
+}

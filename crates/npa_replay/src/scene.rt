@@ -1,0 +1,92 @@
+ghost use Rattle.std.specs.Prelude.{◌≡◌, ◌<◌, ◌^◌, ◌↔◌, ◌++◌, [], ◌∷◌, length, zip, IsTrue, OnOk};
+ghost use Rattle.npa_replay.specs.Choices.{IsAt, IsTarget, target_pairs};
+ghost use Rattle.npa_model.specs.State.{done_of};
+
+use npa_model::{Instances, Part, RunState};
+use npa_sorts::Sorts;
+use npa_term::{NoMemory, Term, TermPairs, copy};
+use std::alloc::Global;
+
+/// What the parts of an aim are met by: the instances of a run, and the state in which it ends.
+#[derive(Clone, Copy)]
+pub(crate) struct Scene<'a> {
+    pub sorts: &'a Sorts,
+    pub instances: &'a Instances,
+    pub state: &'a RunState,
+    pub parts: &'a [Part],
+}
+
+/// Whether a number is that of a target of the part: of an instance of its strand that has
+/// executed as many events as its bar says, or the place of a sent term.
+pub(crate) fn is_target(scene: &Scene<'_>, part: &Part, place: usize) -> bool
+    requires few { length scene.now.instances.now < 2 ^ 32 }
+    requires counted { length scene.now.state.now.executed ≡ length scene.now.instances.now }
+    ensures { IsTrue result ↔ IsTarget scene.now.instances.now scene.now.state.now part.now place }
+{
+    match part {
+        Part::Known(_) => place < scene.state.sent().len(),
+        Part::Strand { strand, bar, .. } => stands_at(scene, *strand, *bar, place),
+    }
+}
+
+// Whether the instance is one of the strand that has executed so many events.
+fn stands_at(scene: &Scene<'_>, strand: u16, bar: u16, place: usize) -> bool
+    requires few { length scene.now.instances.now < 2 ^ 32 }
+    requires counted { length scene.now.state.now.executed ≡ length scene.now.instances.now }
+    ensures { IsTrue result ↔ IsAt scene.now.instances.now scene.now.state.now strand bar place }
+{
+    match scene.instances.get(place) {
+        Some(instance) => instance.strand == strand && has_executed(scene.state, place, bar),
+        None => false,
+    }
+}
+
+// Whether the instance has executed so many events.
+fn has_executed(state: &RunState, place: usize, bar: u16) -> bool
+    requires few { place < 2 ^ 32 }
+    requires within { place < length state.now.executed }
+    ensures { IsTrue result ↔ (done_of state.now place ≡ bar) }
+{
+    state.executed(place as u32) == Some(bar)
+}
+
+/// Adds the pairs of terms that are to be equal where the part is met by the target.
+pub(crate) fn add_pairs(
+    alloc: Global,
+    pairs: &mut TermPairs,
+    scene: &Scene<'_>,
+    part: &Part,
+    place: usize,
+) -> Result<(), NoMemory>
+    ensures { OnOk result (pairs.new ≡ pairs.old ++ target_pairs scene.now.instances.now scene.now.state.now part.now place) }
+{
+    match part {
+        Part::Known(t) => match scene.state.sent().get(place) {
+            Some(u) => add_pair(alloc, pairs, t, u),
+            None => Ok(()),
+        },
+        Part::Strand { args, .. } => match scene.instances.get(place) {
+            Some(instance) => add_all(alloc, pairs, args.as_slice(), instance.args.as_slice()),
+            None => Ok(()),
+        },
+    }
+}
+
+// Adds a pair of copies.
+fn add_pair(alloc: Global, pairs: &mut TermPairs, t: &Term, u: &Term) -> Result<(), NoMemory>
+    ensures { OnOk result (pairs.new ≡ pairs.old ++ (t.now, u.now) ∷ []) }
+{
+    pairs.push((copy(alloc, t)?, copy(alloc, u)?))?;
+    Ok(())
+}
+
+// Adds a pair for each place that both lists have.
+#[tactic(auto, using(crate::proofs::Members::zip_step, crate::proofs::Members::all_added))]
+fn add_all(alloc: Global, pairs: &mut TermPairs, ts: &[Term], us: &[Term]) -> Result<(), NoMemory>
+    ensures { OnOk result (pairs.new ≡ pairs.old ++ zip ts.now us.now) }
+{
+    for i in 0..ts.len().min(us.len()) {
+        add_pair(alloc, pairs, &ts[i], &us[i])?;
+    }
+    Ok(())
+}
