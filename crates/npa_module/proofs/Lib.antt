@@ -1,4 +1,14 @@
-pub mod Options
 pub mod Walks
 pub mod Reading
-pub mod Forms
+pub mod Growth
+pub mod Whole
+pub mod Numbering
+pub mod Answering
+pub mod LimitLaws
+pub mod TallyLaws
+pub mod KeptLimits
+pub mod Formed
+pub mod FormedItems
+pub mod FormedModules
+pub mod AimParts
+pub mod Answered

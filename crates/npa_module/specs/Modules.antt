@@ -1,51 +1,66 @@
--- Module texts: which bytes stand for which module.
-use Rattle.std.specs.Prelude.{◌≡◌, ℕ, Bool, List, [], Option, Some, Result, Ok, Err, ◌==◌, length}
-use Rattle.std.specs.Option.{option_and_then}
-use Rattle.std.specs.List.{list_any}
+-- Module texts: which bytes stand for which module, and which refusal other bytes have.
+use Rattle.std.specs.Prelude.{◌≡◌, ◌⊎◌, ℕ, List, [], Result, Ok, Err}
+use Rattle.std.specs.Option.{option_map}
 use Rattle.npa_syntax.specs.declared.node.Node.{Node}
 use Rattle.npa_text.specs.declared.token.Token.{Token}
+use Rattle.npa_text.specs.declared.fault.TextFault.{TextFault}
+use Rattle.npa_text.specs.declared.fault.TextFault.TheVariants as text_fault
 use Rattle.npa_text.specs.declared.symbols.TheConstants as symbol
 use Rattle.npa_text.specs.Languages.{module_language}
-use Rattle.npa_text.specs.Parses.{IsParse}
-use Rattle.npa_sig.specs.declared.signature.OpDecl.{OpDecl}
+use Rattle.npa_text.specs.Parses.{IsParse, IsFirstFault}
 use Rattle.npa_module.specs.declared.source.Source.{Source}
+use Rattle.npa_module.specs.declared.source.LimitPart.{LimitPart}
 use Rattle.npa_module.specs.declared.source.ReadError.{ReadError}
-use Rattle.npa_module.specs.declared.source.ReadError.TheVariants.{Later, NoMemory}
-use Rattle.npa_module.specs.Trees.{all_with, below, word_of}
+use Rattle.npa_module.specs.declared.source.ReadError.TheVariants as read_error
+use Rattle.npa_module.specs.Trees.{word_of, below}
 use Rattle.npa_module.specs.declared.draft.Draft.{Draft}
-use Rattle.npa_module.specs.Items.{kept_by, items_read}
+use Rattle.npa_module.specs.Drafts.{nothing}
+use Rattle.npa_module.specs.Later.{items_of, later_of}
+use Rattle.npa_module.specs.Limits.{limit_of}
+use Rattle.npa_module.specs.Refusals.{unless, then_read, Gives}
+use Rattle.npa_module.specs.Items.{items_read}
 
-abbrev pub empty : Draft
-empty = record { sig = record { ops = [] }; strands = []; aims = [] }
+-- what the items have declared, as a module of a name
+abbrev pub finished : List ℕ → Draft → Result Source ReadError
+finished name d = Ok (record { name = name; protocol = record { sig = d.sig; equations = []; strands = d.strands.list }; aims = d.aims.list })
 
-abbrev pub is_constant : OpDecl → Bool
-is_constant decl = length decl.args == 0
-
--- a module in which some operator has no arguments
-abbrev pub finished : List ℕ → Draft → Option Source
-finished name draft = kept_by (list_any is_constant draft.sig.ops)
-    (Some (record { name = name; protocol = record { sig = draft.sig; equations = []; strands = draft.strands }; aims = draft.aims }))
-
--- the module of a text's trees, where it keeps the rules
-abbrev pub source_of : List ℕ → List Token → List Node → Option Source
+-- the module of a text's trees, or the first word that breaks a rule on names or sorts
+abbrev pub source_of : List ℕ → List Token → List Node → Result Source ReadError
 source_of bytes tokens nodes =
-    let inside = below symbol.MODULE nodes in
-    option_and_then (finished (word_of bytes tokens symbol.PROTOCOL_NAME inside)) (items_read bytes tokens empty (all_with symbol.ITEM inside))
+    then_read (finished (word_of bytes tokens symbol.PROTOCOL_NAME (below symbol.MODULE nodes))) (items_read bytes tokens nothing (items_of nodes))
 
--- The bytes stand for a module of the first form: they are a text of the grammar of modules, and its
--- trees keep the rules on names and sorts and the limits.
-pub record IsModule (bytes : List ℕ) (source : Source) : Type 0 where
-  pub tokens : List Token
-  pub nodes : List Node
-  pub parse : IsParse module_language bytes tokens nodes
-  pub source_is : source_of bytes tokens nodes ≡ Some source
+-- the refusal of a text that isn't one of the grammar's
+abbrev pub text_refusal : TextFault → ReadError
+text_refusal (text_fault.Syntax line col) = read_error.Syntax line col
+text_refusal text_fault.NoMemory = read_error.NoMemory
 
--- the answer is this one, unless memory was wanting
-abbrev pub Answers : Result Source ReadError → Source → Type 0
-Answers (Ok found) wanted = found ≡ wanted
-Answers (Err Later) wanted = ⊥
-Answers (Err NoMemory) wanted = Unit {0}
+abbrev pub later_refusal : ℕ × ℕ → ReadError
+later_refusal place = read_error.Later place.0 place.1
 
--- whichever module the bytes stand for is answered; so they stand for at most one
+abbrev pub limit_refusal : LimitPart × ℕ → ReadError
+limit_refusal passed = read_error.Limit passed.0 passed.1
+
+-- Of a text's trees: the first item that isn't read so far, or else the first limit that is passed, or
+-- else what the items declare or refuse.
+abbrev pub verdict : List ℕ → List Token → List Node → Result Source ReadError
+verdict bytes tokens nodes =
+    unless (option_map later_refusal (later_of tokens nodes))
+    (unless (option_map limit_refusal (limit_of nodes)) (source_of bytes tokens nodes))
+
+-- What bytes are read as: bytes that are no text of the grammar have the first place at which no text
+-- can go on, and others the verdict on their trees.
+pub data Reads (bytes : List ℕ) : Result Source ReadError → Type 0 where
+  stops : (line col : ℕ) → IsFirstFault module_language bytes line col → Reads bytes (Err (read_error.Syntax line col))
+  parsed : (tokens : List Token) (nodes : List Node) → IsParse module_language bytes tokens nodes → Reads bytes (verdict bytes tokens nodes)
+
+-- the bytes stand for a module
+abbrev pub IsModule : List ℕ → Source → Type 0
+IsModule bytes source = Reads bytes (Ok source)
+
+-- the answer is what the bytes are read as, unless memory was wanting
+abbrev pub IsRead : List ℕ → Result Source ReadError → Type 0
+IsRead bytes result = (result ≡ Err read_error.NoMemory) ⊎ Reads bytes result
+
+-- whatever the bytes are read as is answered, unless memory was wanting; so they are read as one thing
 pub record AnswersModule (bytes : List ℕ) (result : Result Source ReadError) : Type 0 where
-  pub every : (source : Source) → IsModule bytes source → Answers result source
+  pub every : (r : Result Source ReadError) → Reads bytes r → Gives result r

@@ -6,7 +6,8 @@ use Rattle.npa_syntax.specs.declared.node.Node.{Node}
 use Rattle.npa_syntax.specs.Nodes.{symbol_of, head_of, children_of, first_with}
 use Rattle.npa_text.specs.declared.token.Token.{Token}
 use Rattle.npa_text.specs.Texts.{text_of}
-use Rattle.npa_text.specs.Raws.{token_at}
+use Rattle.npa_text.specs.declared.token.Raw.{Raw}
+use Rattle.npa_text.specs.Raws.{token_at, no_token, raw_of, term_with}
 
 -- the nodes for a nonterminal
 abbrev pub all_with : ℕ → List Node → List Node
@@ -40,3 +41,11 @@ kind_of node = (head_of node).kind
 -- nodes behind references
 abbrev pub seen : List (Bor Node) → List Node
 seen nodes = map (λ n. n.now) nodes
+
+-- the token of the first node for a nonterminal
+abbrev pub first_token : List Token → ℕ → List Node → Token
+first_token tokens symbol nodes = option_map_or (token_at tokens) (first_with symbol nodes) no_token
+
+-- the term of the first node for one
+abbrev pub raw_below : List Token → ℕ → List Node → Raw
+raw_below tokens symbol nodes = option_map_or (raw_of tokens) (first_with symbol nodes) (term_with no_token [])

@@ -1,31 +1,28 @@
-ghost use Rattle.std.specs.Prelude.{◌≡◌};
-ghost use Rattle.std.specs.List.{list_any};
-ghost use Rattle.std.specs.Str.{bytes_eq};
-ghost use Rattle.npa_module.specs.Trees.{seen, listed};
-ghost use Rattle.npa_module.specs.Items.{Gives, aim_read, aim_rules, part_read, parts_read};
+ghost use Rattle.std.specs.Prelude.{◌≡◌, ◌≤◌, false, is_some, length, IfOk};
+ghost use Rattle.npa_names.specs.Names.{place_of};
+ghost use Rattle.npa_text.specs.Texts.{text_of};
+ghost use Rattle.npa_module.specs.Trees.{seen};
+ghost use Rattle.npa_module.specs.Rooms.{AreShort};
+ghost use Rattle.npa_module.specs.Refusals.{Gives};
+ghost use Rattle.npa_module.specs.Items.{aim_read, one_aim_read, aim_over, parts_read, part_read};
 
-use crate::draft::Draft;
+use crate::draft::{Draft, declare_aim, refuse};
+use crate::parts::read_strand_part;
+use crate::refusals::name_refusal;
+use crate::scopes::{Binders, read_variables, scope_of};
 use crate::source::ReadError;
-use crate::strands::MOST_SYMBOLS;
-use crate::terms::read_term;
-use crate::trees::{has, listed, word_of};
+use crate::terms::read_message;
+use crate::trees::{all_with, below, first_token, listed, raw_below};
 use npa_list::List;
 use npa_model::{Aim, Part, Parts};
-use npa_sig::Sig;
+use npa_sig::Scope;
 use npa_syntax::Node;
-use npa_term::symbols;
-use npa_text::Tokens;
-use npa_text::symbols::{AIM_NAME, NEXT_PART, PART, VARIABLES};
+use npa_text::symbols::{AIM_NAME, NEXT_PART, PART, TERM, VARIABLE, VARIABLES};
 use npa_text::terminals::KNOWN;
+use npa_text::{Token, Tokens, token_text};
 use std::alloc::Global;
 
-/// The most aims of a module.
-pub const MOST_AIMS: usize = 256;
-
-/// The most known parts of an aim.
-pub const MOST_KNOWN: usize = 64;
-
-// The module with one more aim.
+// One more aim.
 pub(crate) fn add_aim(
     alloc: Global,
     bytes: &[u8],
@@ -33,50 +30,69 @@ pub(crate) fn add_aim(
     draft: Draft,
     nodes: &[Node],
 ) -> Result<Draft, ReadError>
+    requires sorts { length draft.sorts ≤ 65535 }
+    requires strands { length draft.strands.names ≤ 65535 }
+    requires short { AreShort draft.strands.list }
     ensures { Gives result (aim_read bytes.now tokens.now draft nodes.now) }
 {
-    let name = word_of(bytes, tokens, AIM_NAME, nodes);
+    match read_aim(alloc, bytes, tokens, &draft, nodes) {
+        Ok(aim) => declare_aim(alloc, draft, aim),
+        Err(error) => refuse(draft, error),
+    }
+}
+
+// An aim.
+fn read_aim(
+    alloc: Global,
+    bytes: &[u8],
+    tokens: &Tokens,
+    draft: &Draft,
+    nodes: &[Node],
+) -> Result<Aim, ReadError>
+    requires sorts { length draft.now.sorts ≤ 65535 }
+    requires strands { length draft.now.strands.names ≤ 65535 }
+    requires short { AreShort draft.now.strands.list }
+    ensures means { Gives result (one_aim_read bytes.now tokens.now draft.now nodes.now) }
+    ensures apart { IfOk result (λ aim. is_some (place_of aim.name draft.now.aims.names) ≡ false) }
+{
+    let name = first_token(tokens, AIM_NAME, nodes);
+    if draft.aims.names.place(token_text(bytes, name)).is_some() {
+        return Err(name_refusal(alloc, bytes, name));
+    }
+    let variables = all_with(alloc, VARIABLE, below(VARIABLES, nodes))?;
+    let none = Binders::new(alloc);
+    match read_variables(alloc, bytes, tokens, draft, none, variables.as_slice()) {
+        Ok(vars) => read_over(alloc, bytes, tokens, draft, name, nodes, &vars),
+        Err(error) => Err(error),
+    }
+}
+
+// An aim of this name with these variables.
+fn read_over(
+    alloc: Global,
+    bytes: &[u8],
+    tokens: &Tokens,
+    draft: &Draft,
+    name: Token,
+    nodes: &[Node],
+    vars: &Binders,
+) -> Result<Aim, ReadError>
+    requires strands { length draft.now.strands.names ≤ 65535 }
+    requires short { AreShort draft.now.strands.list }
+    ensures means { Gives result (aim_over bytes.now tokens.now draft.now name nodes.now vars.now) }
+    ensures named { IfOk result (λ aim. aim.name ≡ text_of bytes.now name) }
+{
+    let scope = scope_of(alloc, vars.names.as_slice(), vars.sorts.as_slice())?;
     let parts = listed(alloc, PART, NEXT_PART, nodes)?;
-    if !keeps_rules(&draft, name, nodes, parts.as_slice()) {
-        return Err(ReadError::Later);
-    }
-    let parts = read_parts(alloc, bytes, tokens, &draft.sig, parts.as_slice())?;
-    let aim = Aim {
-        name: List::from_slice(alloc, name)?,
-        sorts: List::new(alloc),
-        parts,
+    let parts = match read_parts(alloc, bytes, tokens, draft, &scope, parts.as_slice()) {
+        Ok(parts) => parts,
+        Err(error) => return Err(error),
     };
-    let Draft {
-        sig,
-        strands,
-        mut aims,
-    } = draft;
-    aims.push(aim)?;
-    Ok(Draft { sig, strands, aims })
-}
-
-// Whether the aim's name and form keep the rules.
-fn keeps_rules(draft: &Draft, name: &[u8], nodes: &[Node], parts: &[&Node]) -> bool
-    requires { seen parts.now ≡ listed PART NEXT_PART nodes.now }
-    ensures { result ≡ aim_rules draft.now name.now nodes.now }
-{
-    !is_aim(name, draft.aims.as_slice())
-        && draft.aims.len() < MOST_AIMS
-        && !has(VARIABLES, nodes)
-        && parts.len() <= MOST_KNOWN
-}
-
-// Whether the name is that of an aim.
-#[tactic(auto, using(crate::proofs::Walks::any_step))]
-fn is_aim(name: &[u8], aims: &[Aim]) -> bool
-    ensures { result ≡ list_any (λ aim. bytes_eq name.now aim.name) aims.now }
-{
-    for aim in aims {
-        if name == aim.name.as_slice() {
-            return true;
-        }
-    }
-    false
+    Ok(Aim {
+        name: List::from_slice(alloc, token_text(bytes, name))?,
+        sorts: List::from_slice(alloc, vars.sorts.as_slice())?,
+        parts,
+    })
 }
 
 // The parts of an aim.
@@ -84,14 +100,17 @@ fn read_parts(
     alloc: Global,
     bytes: &[u8],
     tokens: &Tokens,
-    sig: &Sig,
+    draft: &Draft,
+    scope: &Scope,
     nodes: &[&Node],
 ) -> Result<Parts, ReadError>
-    ensures { Gives result (parts_read bytes.now tokens.now sig.now (seen nodes.now)) }
+    requires strands { length draft.now.strands.names ≤ 65535 }
+    requires short { AreShort draft.now.strands.list }
+    ensures { Gives result (parts_read bytes.now tokens.now draft.now scope.now (seen nodes.now)) }
 {
     let mut parts = List::new(alloc);
     for node in nodes {
-        match read_part(alloc, bytes, tokens, sig, *node) {
+        match read_part(alloc, bytes, tokens, draft, scope, *node) {
             Ok(part) => parts.push(part)?,
             Err(error) => return Err(error),
         }
@@ -103,18 +122,21 @@ fn read_part(
     alloc: Global,
     bytes: &[u8],
     tokens: &Tokens,
-    sig: &Sig,
+    draft: &Draft,
+    scope: &Scope,
     node: &Node,
 ) -> Result<Part, ReadError>
-    ensures { Gives result (part_read bytes.now tokens.now sig.now node.now) }
+    requires strands { length draft.now.strands.names ≤ 65535 }
+    requires short { AreShort draft.now.strands.list }
+    ensures { Gives result (part_read bytes.now tokens.now draft.now scope.now node.now) }
 {
+    let nodes = node.children.as_slice();
     if node.head.kind != KNOWN {
-        return Err(ReadError::Later);
+        return read_strand_part(alloc, bytes, tokens, draft, scope, nodes);
     }
-    let none = List::new(alloc);
-    match read_term(alloc, bytes, tokens, sig, &none, node.children.as_slice()) {
-        Ok(term) if symbols(&term) <= MOST_SYMBOLS => Ok(Part::Known(term)),
-        Ok(_) => Err(ReadError::Later),
+    let raw = raw_below(alloc, tokens, TERM, nodes)?;
+    match read_message(alloc, bytes, &draft.sig, scope, &raw) {
+        Ok(term) => Ok(Part::Known(term)),
         Err(error) => Err(error),
     }
 }

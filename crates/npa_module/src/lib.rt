@@ -3,8 +3,18 @@
 
 mod aims;
 mod draft;
+mod later;
+mod limits;
+#[cfg(test)]
+mod limits_tests;
 mod operators;
+mod parts;
 mod reader;
+#[cfg(test)]
+mod refusal_tests;
+mod refusals;
+mod scopes;
+mod sorts;
 mod source;
 mod strands;
 mod terms;
@@ -13,4 +23,4 @@ mod tests;
 pub mod trees;
 
 pub use reader::read;
-pub use source::{ReadError, Source};
+pub use source::{LimitPart, ReadError, Source};

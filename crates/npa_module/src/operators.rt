@@ -1,25 +1,24 @@
-ghost use Rattle.std.specs.Prelude.{◌≡◌, IfOk};
-ghost use Rattle.std.specs.List.{list_all};
-ghost use Rattle.npa_module.specs.Trees.{seen, all_with};
-ghost use Rattle.npa_module.specs.Items.{Gives, op_read, op_rules, is_msg, is_listed, is_parameter, msg_sorts};
+ghost use Rattle.std.specs.Prelude.{◌≡◌, ◌≤◌, ◌||◌, is_some, length, map, Ok};
+ghost use Rattle.npa_sig.specs.Signature.{number_of};
+ghost use Rattle.npa_names.specs.Names.{place_of};
+ghost use Rattle.npa_module.specs.Trees.{seen, word_at};
+ghost use Rattle.npa_module.specs.Refusals.{Gives, unless};
+ghost use Rattle.npa_module.specs.Items.{op_read, operator_read, op_fault, is_pair, result_read};
 
-use crate::draft::Draft;
+use crate::draft::{Draft, declare, refuse};
+use crate::refusals::{name_refusal, sort_refusal};
+use crate::sorts::{read_sort, read_sorts};
 use crate::source::ReadError;
-use crate::trees::{all_with, has, word_at, word_of};
+use crate::trees::{all_with, first_token, has, word_at};
 use npa_list::List;
-use npa_sig::{MSG, OpDecl, SigFail, SortNums, Strand};
+use npa_names::NameTable;
+use npa_sig::{FRESH, OpDecl};
 use npa_syntax::Node;
 use npa_text::symbols::{ARGUMENT_SORT, COMMUTATIVE, OPERATOR_NAME, RESULT_SORT};
-use npa_text::{Name, Tokens};
-use std::alloc::{AllocError, Global};
+use npa_text::{Token, Tokens, token_text};
+use std::alloc::Global;
 
-/// The most operators of a module.
-pub const MOST_OPS: usize = 4_096;
-
-/// The most arguments of an operator.
-pub const MOST_ARGS: usize = 16;
-
-// The module with one more operator.
+// One more operator.
 pub(crate) fn add_operator(
     alloc: Global,
     bytes: &[u8],
@@ -27,101 +26,109 @@ pub(crate) fn add_operator(
     draft: Draft,
     nodes: &[Node],
 ) -> Result<Draft, ReadError>
+    requires few { length draft.sig.ops ≤ 4096 }
+    requires sorts { length draft.sorts ≤ 65535 }
     ensures { Gives result (op_read bytes.now tokens.now draft nodes.now) }
 {
-    let name = word_of(bytes, tokens, OPERATOR_NAME, nodes);
-    let args = all_with(alloc, ARGUMENT_SORT, nodes)?;
-    let results = all_with(alloc, RESULT_SORT, nodes)?;
-    if !keeps_rules(
-        bytes,
-        tokens,
-        &draft,
-        name,
-        nodes,
-        args.as_slice(),
-        results.as_slice(),
-    ) {
-        return Err(ReadError::Later);
-    }
-    let decl = OpDecl {
-        name: List::from_slice(alloc, name)?,
-        args: msg_sorts(alloc, args.as_slice())?,
-        result: MSG,
-        com: false,
-    };
-    let Draft { sig, strands, aims } = draft;
-    match sig.declare(alloc, decl) {
-        Ok(sig) => Ok(Draft { sig, strands, aims }),
-        Err(SigFail::Twice(_)) => Err(ReadError::Later),
-        Err(SigFail::NoMemory) => Err(ReadError::NoMemory),
+    match read_operator(alloc, bytes, tokens, &draft, nodes) {
+        Ok(decl) => declare(alloc, draft, decl),
+        Err(error) => refuse(draft, error),
     }
 }
 
-// Whether the operator's name and sorts keep the rules.
-fn keeps_rules(
+// The declaration of an operator.
+fn read_operator(
+    alloc: Global,
     bytes: &[u8],
     tokens: &Tokens,
     draft: &Draft,
-    name: &[u8],
     nodes: &[Node],
+) -> Result<OpDecl, ReadError>
+    requires { length draft.now.sorts ≤ 65535 }
+    ensures { Gives result (operator_read bytes.now tokens.now draft.now nodes.now) }
+{
+    let name = first_token(tokens, OPERATOR_NAME, nodes);
+    let commutes = has(COMMUTATIVE, nodes);
+    let args = all_with(alloc, ARGUMENT_SORT, nodes)?;
+    match check_operator(alloc, bytes, tokens, draft, name, commutes, args.as_slice()) {
+        Ok(()) => (),
+        Err(error) => return Err(error),
+    }
+    let args = match read_sorts(alloc, bytes, tokens, &draft.sorts, args.as_slice()) {
+        Ok(args) => args,
+        Err(error) => return Err(error),
+    };
+    let result = match read_result(
+        alloc,
+        bytes,
+        &draft.sorts,
+        first_token(tokens, RESULT_SORT, nodes),
+    ) {
+        Ok(result) => result,
+        Err(error) => return Err(error),
+    };
+    Ok(OpDecl {
+        name: List::from_slice(alloc, token_text(bytes, name))?,
+        args,
+        result,
+        com: commutes,
+    })
+}
+
+// The operator's name is its own, and a commutative one has two arguments of one sort.
+fn check_operator(
+    alloc: Global,
+    bytes: &[u8],
+    tokens: &Tokens,
+    draft: &Draft,
+    name: Token,
+    commutes: bool,
     args: &[&Node],
-    results: &[&Node],
-) -> bool
-    requires args { seen args.now ≡ all_with ARGUMENT_SORT nodes.now }
-    requires results { seen results.now ≡ all_with RESULT_SORT nodes.now }
-    ensures { result ≡ op_rules bytes.now tokens.now draft.now name.now nodes.now }
+) -> Result<(), ReadError>
+    ensures { Gives result (unless (op_fault bytes.now tokens.now draft.now name commutes (seen args.now)) (Ok tt)) }
 {
-    draft.sig.number_of(name).is_none()
-        && !is_parameter(name, draft.strands.as_slice())
-        && draft.sig.ops().len() < MOST_OPS
-        && args.len() <= MOST_ARGS
-        && are_msg(bytes, tokens, args)
-        && are_msg(bytes, tokens, results)
-        && !has(COMMUTATIVE, nodes)
-}
-
-// Whether the name is that of a parameter of one of the strands.
-#[tactic(auto, using(crate::proofs::Walks::any_step))]
-fn is_parameter(name: &[u8], strands: &[Strand]) -> bool
-    ensures { result ≡ is_parameter name.now strands.now }
-{
-    for strand in strands {
-        if is_listed(name, strand.names.as_slice()) {
-            return true;
-        }
+    if is_named(draft, token_text(bytes, name)) {
+        return Err(name_refusal(alloc, bytes, name));
     }
-    false
-}
-
-// Whether the name is one of these.
-#[tactic(auto, using(crate::proofs::Walks::any_step))]
-pub(crate) fn is_listed(name: &[u8], names: &[Name]) -> bool
-    ensures { result ≡ is_listed name.now names.now }
-{
-    for other in names {
-        if name == other.as_slice() {
-            return true;
-        }
+    if commutes && !is_pair(bytes, tokens, args) {
+        return Err(sort_refusal(alloc, bytes, name));
     }
-    false
+    Ok(())
 }
 
-// Whether each node is the sort of messages.
-#[tactic(auto, using(crate::proofs::Walks::all_step))]
-pub(crate) fn are_msg(bytes: &[u8], tokens: &Tokens, nodes: &[&Node]) -> bool
-    ensures { result ≡ list_all (is_msg bytes.now tokens.now) (seen nodes.now) }
+// Whether an operator, or a variable or fresh value of a strand, has the name.
+fn is_named(draft: &Draft, name: &[u8]) -> bool
+    ensures { result ≡ (is_some (number_of draft.now.sig name.now) || is_some (place_of name.now draft.now.strands.params)) }
 {
-    for node in nodes {
-        if word_at(bytes, tokens, *node) != b"Msg".as_slice() {
-            return false;
-        }
+    draft.sig.number_of(name).is_some() || draft.strands.params.place(name).is_some()
+}
+
+// Whether the nodes are two of one word.
+fn is_pair(bytes: &[u8], tokens: &Tokens, nodes: &[&Node]) -> bool
+    ensures { result ≡ is_pair (map (word_at bytes.now tokens.now) (seen nodes.now)) }
+{
+    match nodes {
+        [first, second] => word_at(bytes, tokens, *first) == word_at(bytes, tokens, *second),
+        _ => false,
     }
-    true
 }
 
-// The sort of messages for each node.
-pub(crate) fn msg_sorts(alloc: Global, nodes: &[&Node]) -> Result<SortNums, AllocError>
-    ensures { IfOk result (λ sorts. sorts ≡ msg_sorts (seen nodes.now)) }
+// The sort of a result.
+fn read_result(
+    alloc: Global,
+    bytes: &[u8],
+    sorts: &NameTable,
+    token: Token,
+) -> Result<u16, ReadError>
+    requires { length sorts.now ≤ 65535 }
+    ensures { Gives result (result_read bytes.now sorts.now token) }
 {
-    Ok(List::from_vec(vec![in alloc; MSG; nodes.len()]?))
+    let sort = match read_sort(alloc, bytes, sorts, token) {
+        Ok(sort) => sort,
+        Err(error) => return Err(error),
+    };
+    if sort == FRESH {
+        return Err(sort_refusal(alloc, bytes, token));
+    }
+    Ok(sort)
 }

@@ -1,38 +1,75 @@
-ghost use Rattle.std.specs.Prelude.{◌≡◌, ◌≤◌, ◌==◌, ◌||◌, length, IfOk};
-ghost use Rattle.std.specs.List.{list_any};
-ghost use Rattle.npa_module.specs.Forms.{IsPlain};
-ghost use Rattle.npa_module.specs.Items.{Gives, item_read, items_read};
-ghost use Rattle.npa_module.specs.Modules.{IsModule, AnswersModule, is_constant, source_of, empty};
+ghost use Rattle.std.specs.Prelude.{IfOk, ◌≡◌, ◌≤◌, length};
 ghost use Rattle.npa_module.specs.Trees.{seen};
+ghost use Rattle.npa_module.specs.Drafts.{nothing};
+ghost use Rattle.npa_module.specs.Refusals.{Gives};
+ghost use Rattle.npa_module.specs.Items.{item_read, items_read};
+ghost use Rattle.npa_module.specs.Later.{items_of};
+ghost use Rattle.npa_module.specs.Rooms.{HasRoom, HaveRoom};
+ghost use Rattle.npa_module.specs.Forms.{IsWellFormedSource};
+ghost use Rattle.npa_module.specs.Modules.{source_of, verdict, text_refusal, IsRead, AnswersModule};
 
 use crate::aims::add_aim;
-use crate::draft::Draft;
+use crate::draft::{Draft, empty_draft, parts_of};
+use crate::later::later_item;
+use crate::limits::first_limit;
 use crate::operators::add_operator;
+use crate::sorts::{add_sort, add_subsort};
 use crate::source::{ReadError, Source};
 use crate::strands::add_strand;
 use crate::trees::{all_with, below, word_of};
 use npa_list::List;
-use npa_sig::{OpDecl, Protocol, Sig};
+use npa_sig::Protocol;
 use npa_syntax::Node;
 use npa_text::symbols::{ITEM, MODULE, PROTOCOL_NAME};
-use npa_text::terminals::{AIM, INTRUDER, OP, STRAND};
+use npa_text::terminals::{AIM, INTRUDER, OP, SORT, STRAND, SUBSORT};
 use npa_text::{Parsed, TextFault, Tokens, module_grammar, parse};
 use std::alloc::Global;
 
-/// Reads a module text. A text that isn't a module, that breaks a rule on names or sorts or passes
-/// a limit, or that has an item or a form that isn't read so far, is `Later`.
-#[tactic(auto, using(crate::proofs::Forms::plain_answer))]
+/// Reads a module text. Where several refusals hold, the first of these is told: `Syntax` with the
+/// first place at which no module can go on; `Later` with the first item `eq` or `grammar`; `Limit`
+/// with the first limit that is passed, in the order of `LimitPart`, and by what number; `Name` and
+/// `Sort` with the first word in the order of the text that breaks a rule on names or on sorts. A
+/// name stands for what was declared earlier in the text; variables are numbered by their places, a
+/// strand's fresh values behind them. What is read is well formed.
 pub fn read(alloc: Global, bytes: &[u8]) -> Result<Source, ReadError>
     requires { length bytes.now ≤ 1048576 }
-    ensures found { IfOk result (IsModule bytes.now) }
+    ensures answer { IsRead bytes.now result }
     ensures only { AnswersModule bytes.now result }
-    ensures form { IfOk result IsPlain }
+    ensures form { IfOk result IsWellFormedSource }
 {
     match parse(alloc, &module_grammar(), bytes) {
-        Ok(Parsed { tokens, nodes }) => read_tree(alloc, bytes, &tokens, nodes.as_slice()),
-        Err(TextFault::Syntax { .. }) => Err(ReadError::Later),
-        Err(TextFault::NoMemory) => Err(ReadError::NoMemory),
+        Ok(Parsed { tokens, nodes }) => read_nodes(alloc, bytes, &tokens, nodes.as_slice()),
+        Err(fault) => Err(text_refusal(fault)),
     }
+}
+
+// The refusal of a text that isn't a module.
+fn text_refusal(fault: TextFault) -> ReadError
+    ensures { result ≡ text_refusal fault }
+{
+    match fault {
+        TextFault::Syntax { line, col } => ReadError::Syntax { line, col },
+        TextFault::NoMemory => ReadError::NoMemory,
+    }
+}
+
+// The verdict on a text's trees.
+#[tactic(auto, using(crate::proofs::Growth::room_at_first))]
+fn read_nodes(
+    alloc: Global,
+    bytes: &[u8],
+    tokens: &Tokens,
+    nodes: &[Node],
+) -> Result<Source, ReadError>
+    ensures { Gives result (verdict bytes.now tokens.now nodes.now) }
+{
+    if let Some((line, col)) = later_item(tokens, nodes) {
+        return Err(ReadError::Later { line, col });
+    }
+    if let Some((part, value)) = first_limit(nodes) {
+        return Err(ReadError::Limit { part, value });
+    }
+    read_tree(alloc, bytes, tokens, nodes)
 }
 
 // The module of a text's trees.
@@ -42,19 +79,17 @@ fn read_tree(
     tokens: &Tokens,
     nodes: &[Node],
 ) -> Result<Source, ReadError>
+    requires { HaveRoom nothing (items_of nodes.now) }
     ensures { Gives result (source_of bytes.now tokens.now nodes.now) }
 {
     let inside = below(MODULE, nodes);
     let items = all_with(alloc, ITEM, inside)?;
+    let name = List::from_slice(alloc, word_of(bytes, tokens, PROTOCOL_NAME, inside))?;
     let draft = match read_items(alloc, bytes, tokens, items.as_slice()) {
         Ok(draft) => draft,
         Err(error) => return Err(error),
     };
-    if !has_constant(draft.sig.ops().as_slice()) {
-        return Err(ReadError::Later);
-    }
-    let name = List::from_slice(alloc, word_of(bytes, tokens, PROTOCOL_NAME, inside))?;
-    let Draft { sig, strands, aims } = draft;
+    let (sig, strands, aims) = parts_of(draft);
     Ok(Source {
         name,
         protocol: Protocol {
@@ -66,33 +101,18 @@ fn read_tree(
     })
 }
 
-// Whether some operator has no arguments.
-#[tactic(auto, using(crate::proofs::Walks::any_step))]
-fn has_constant(ops: &[OpDecl]) -> bool
-    ensures { result ≡ list_any is_constant ops.now }
-{
-    for decl in ops {
-        if decl.args.len() == 0 {
-            return true;
-        }
-    }
-    false
-}
-
 // What the items declare, in the order of the text.
+#[tactic(auto, using(crate::proofs::Growth::room_for, crate::proofs::Growth::room_behind))]
 fn read_items(
     alloc: Global,
     bytes: &[u8],
     tokens: &Tokens,
     items: &[&Node],
 ) -> Result<Draft, ReadError>
-    ensures { Gives result (items_read bytes.now tokens.now empty (seen items.now)) }
+    requires { HaveRoom nothing (seen items.now) }
+    ensures { Gives result (items_read bytes.now tokens.now nothing (seen items.now)) }
 {
-    let mut draft = Draft {
-        sig: Sig::empty(alloc),
-        strands: List::new(alloc),
-        aims: List::new(alloc),
-    };
+    let mut draft = empty_draft(alloc)?;
     for item in items {
         draft = match add_item(alloc, bytes, tokens, draft, *item) {
             Ok(draft) => draft,
@@ -109,25 +129,17 @@ fn add_item(
     draft: Draft,
     item: &Node,
 ) -> Result<Draft, ReadError>
+    requires { HasRoom draft item.now }
     ensures { Gives result (item_read bytes.now tokens.now draft item.now) }
 {
     let nodes = item.children.as_slice();
-    let kind = item.head.kind;
-    if kind == OP {
-        return add_operator(alloc, bytes, tokens, draft, nodes);
+    match item.head.kind {
+        SORT => add_sort(alloc, bytes, tokens, draft, nodes),
+        SUBSORT => add_subsort(alloc, bytes, tokens, draft, nodes),
+        OP => add_operator(alloc, bytes, tokens, draft, nodes),
+        STRAND => add_strand(alloc, bytes, tokens, draft, false, nodes),
+        INTRUDER => add_strand(alloc, bytes, tokens, draft, true, nodes),
+        AIM => add_aim(alloc, bytes, tokens, draft, nodes),
+        _ => Ok(draft),
     }
-    if is_strand(kind) {
-        return add_strand(alloc, bytes, tokens, draft, kind == INTRUDER, nodes);
-    }
-    if kind == AIM {
-        return add_aim(alloc, bytes, tokens, draft, nodes);
-    }
-    Err(ReadError::Later)
-}
-
-// Whether an item that begins so is a strand.
-fn is_strand(kind: u8) -> bool
-    ensures { result ≡ (kind == STRAND || kind == INTRUDER) }
-{
-    kind == STRAND || kind == INTRUDER
 }

@@ -1,39 +1,27 @@
-ghost use Rattle.std.specs.Prelude.{◌≡◌, ◌++◌, ◌≤◌, ◌-◌, ◌^◌, map, min, is_none, length, IfOk};
-ghost use Rattle.std.specs.List.{list_all, list_any};
-ghost use Rattle.std.specs.Str.{bytes_eq};
-ghost use Rattle.npa_sig.specs.Signature.{number_of};
-ghost use Rattle.npa_module.specs.Trees.{seen, listed, word_at, kind_of};
-ghost use Rattle.npa_module.specs.Items.{Gives, strand_read, strand_rules, is_msg_variable, are_apart, variable_nodes, variable_names, event_read, events_read, messages_count};
+ghost use Rattle.std.specs.Prelude.{◌≡◌, ◌≤◌, false, is_some, length, IfOk};
+ghost use Rattle.npa_names.specs.Names.{place_of};
+ghost use Rattle.npa_text.specs.Texts.{text_of};
+ghost use Rattle.npa_module.specs.Trees.{seen};
+ghost use Rattle.npa_module.specs.Refusals.{Gives};
+ghost use Rattle.npa_module.specs.Items.{strand_read, one_strand_read, strand_behind, strand_over, event_read, events_read, fresh_nodes};
 
-use crate::draft::Draft;
-use crate::operators::{are_msg, is_listed, msg_sorts};
+use crate::draft::{Draft, declare_strand, refuse, strand_number};
+use crate::refusals::name_refusal;
+use crate::scopes::{Binders, behind, joined, read_fresh, read_variables, scope_of, with_fresh};
 use crate::source::ReadError;
-use crate::terms::{read_term, scope_of};
-use crate::trees::{all_with, below, has, listed, word_at, word_of};
+use crate::terms::read_message;
+use crate::trees::{all_with, below, first_token, listed, raw_below};
 use npa_list::List;
 use npa_sig::{Event, Events, Scope, Sig, Strand};
 use npa_syntax::Node;
-use npa_term::symbols;
 use npa_text::symbols::{
-    EVENT, FRESH_VALUES, NEXT_EVENT, STRAND_NAME, VARIABLE, VARIABLE_SORT, VARIABLES,
+    EVENT, FRESH_VALUE, FRESH_VALUES, NEXT_EVENT, STRAND_NAME, TERM, VARIABLE, VARIABLES,
 };
 use npa_text::terminals::PLUS;
-use npa_text::{Name, Names, Tokens};
-use std::alloc::{AllocError, Global};
+use npa_text::{Names, Token, Tokens, token_text};
+use std::alloc::Global;
 
-/// The most strands of a module.
-pub const MOST_STRANDS: usize = 1_024;
-
-/// The most parameters of a strand.
-pub const MOST_PARAMS: usize = 64;
-
-/// The most events of a strand.
-pub const MOST_EVENTS: usize = 32;
-
-/// The most symbols of all messages of a strand together, and of a term of an aim.
-pub const MOST_SYMBOLS: u64 = 1_024;
-
-// The module with one more strand.
+// One more strand.
 pub(crate) fn add_strand(
     alloc: Global,
     bytes: &[u8],
@@ -42,148 +30,101 @@ pub(crate) fn add_strand(
     intruder: bool,
     nodes: &[Node],
 ) -> Result<Draft, ReadError>
+    requires sorts { length draft.sorts ≤ 65535 }
+    requires strands { length draft.strands.names ≤ 65535 }
+    requires fresh { length (fresh_nodes nodes.now) ≤ 65535 }
     ensures { Gives result (strand_read bytes.now tokens.now draft intruder nodes.now) }
 {
-    let name = word_of(bytes, tokens, STRAND_NAME, nodes);
-    let variables = all_with(alloc, VARIABLE, below(VARIABLES, nodes))?;
-    let names = words_at(alloc, bytes, tokens, variables.as_slice())?;
-    let events = listed(alloc, EVENT, NEXT_EVENT, nodes)?;
-    if !keeps_rules(
-        bytes,
-        tokens,
-        &draft,
-        name,
-        nodes,
-        variables.as_slice(),
-        names.as_slice(),
-        events.as_slice(),
-    ) {
-        return Err(ReadError::Later);
+    match read_strand(alloc, bytes, tokens, &draft, intruder, nodes) {
+        Ok(strand) => declare_strand(alloc, draft, strand),
+        Err(error) => refuse(draft, error),
     }
-    let scope = scope_of(alloc, names.as_slice())?;
-    let events = read_events(alloc, bytes, tokens, &draft.sig, &scope, events.as_slice())?;
-    if messages_count(events.as_slice()) > MOST_SYMBOLS {
-        return Err(ReadError::Later);
-    }
-    let strand = Strand {
-        name: List::from_slice(alloc, name)?,
-        intruder,
-        vars: msg_sorts(alloc, variables.as_slice())?,
-        fresh: 0,
-        names,
-        events,
-    };
-    let Draft {
-        sig,
-        mut strands,
-        aims,
-    } = draft;
-    strands.push(strand)?;
-    Ok(Draft { sig, strands, aims })
 }
 
-// Whether the strand's names and sorts and numbers keep the rules.
-fn keeps_rules(
-    bytes: &[u8],
-    tokens: &Tokens,
-    draft: &Draft,
-    name: &[u8],
-    nodes: &[Node],
-    variables: &[&Node],
-    names: &[Name],
-    events: &[&Node],
-) -> bool
-    requires variables { seen variables.now ≡ variable_nodes nodes.now }
-    requires names { names.now ≡ variable_names bytes.now tokens.now nodes.now }
-    requires events { seen events.now ≡ listed EVENT NEXT_EVENT nodes.now }
-    ensures { result ≡ strand_rules bytes.now tokens.now draft.now name.now nodes.now }
-{
-    !is_strand(name, draft.strands.as_slice())
-        && draft.strands.len() < MOST_STRANDS
-        && !has(FRESH_VALUES, nodes)
-        && variables.len() <= MOST_PARAMS
-        && are_msg_variables(bytes, tokens, variables)
-        && are_apart(names)
-        && are_no_operators(&draft.sig, names)
-        && events.len() <= MOST_EVENTS
-}
-
-// The words with which the nodes begin.
-fn words_at(
+// A strand.
+fn read_strand(
     alloc: Global,
     bytes: &[u8],
     tokens: &Tokens,
-    nodes: &[&Node],
-) -> Result<Names, AllocError>
-    ensures { IfOk result (λ names. names ≡ map (word_at bytes.now tokens.now) (seen nodes.now)) }
+    draft: &Draft,
+    intruder: bool,
+    nodes: &[Node],
+) -> Result<Strand, ReadError>
+    requires sorts { length draft.now.sorts ≤ 65535 }
+    requires strands { length draft.now.strands.names ≤ 65535 }
+    requires fresh { length (fresh_nodes nodes.now) ≤ 65535 }
+    ensures means { Gives result (one_strand_read bytes.now tokens.now draft.now intruder nodes.now) }
+    ensures apart { IfOk result (λ strand. is_some (place_of strand.name draft.now.strands.names) ≡ false) }
 {
-    let mut names = List::new(alloc);
-    for node in nodes {
-        names.push(List::from_slice(alloc, word_at(bytes, tokens, *node))?)?;
+    let name = first_token(tokens, STRAND_NAME, nodes);
+    if strand_number(&draft.strands.names, token_text(bytes, name)).is_some() {
+        return Err(name_refusal(alloc, bytes, name));
     }
-    Ok(names)
+    let fresh = all_with(alloc, FRESH_VALUE, below(FRESH_VALUES, nodes))?;
+    match read_fresh(alloc, bytes, tokens, &draft.sig, fresh.as_slice()) {
+        Ok(fresh) => read_behind(alloc, bytes, tokens, draft, intruder, name, nodes, fresh),
+        Err(error) => Err(error),
+    }
 }
 
-// Whether the name is that of a strand.
-#[tactic(auto, using(crate::proofs::Walks::any_step))]
-fn is_strand(name: &[u8], strands: &[Strand]) -> bool
-    ensures { result ≡ list_any (λ strand. bytes_eq name.now strand.name) strands.now }
+// A strand of this name with these fresh values.
+fn read_behind(
+    alloc: Global,
+    bytes: &[u8],
+    tokens: &Tokens,
+    draft: &Draft,
+    intruder: bool,
+    name: Token,
+    nodes: &[Node],
+    fresh: Binders,
+) -> Result<Strand, ReadError>
+    requires sorts { length draft.now.sorts ≤ 65535 }
+    requires fresh { length fresh.names ≤ 65535 }
+    ensures means { Gives result (strand_behind bytes.now tokens.now draft.now intruder name nodes.now fresh) }
+    ensures named { IfOk result (λ strand. strand.name ≡ text_of bytes.now name) }
 {
-    for strand in strands {
-        if name == strand.name.as_slice() {
-            return true;
-        }
+    let variables = all_with(alloc, VARIABLE, below(VARIABLES, nodes))?;
+    let (fresh, before) = behind(alloc, fresh);
+    match read_variables(alloc, bytes, tokens, draft, before, variables.as_slice()) {
+        Ok(vars) => read_over(
+            alloc, bytes, tokens, draft, intruder, name, nodes, &fresh, &vars,
+        ),
+        Err(error) => Err(error),
     }
-    false
 }
 
-// Whether each variable is of the sort of messages.
-#[tactic(auto, using(crate::proofs::Walks::all_step))]
-fn are_msg_variables(bytes: &[u8], tokens: &Tokens, nodes: &[&Node]) -> bool
-    ensures { result ≡ list_all (is_msg_variable bytes.now tokens.now) (seen nodes.now) }
+// A strand of this name with these fresh values and variables.
+fn read_over(
+    alloc: Global,
+    bytes: &[u8],
+    tokens: &Tokens,
+    draft: &Draft,
+    intruder: bool,
+    name: Token,
+    nodes: &[Node],
+    fresh: &Names,
+    vars: &Binders,
+) -> Result<Strand, ReadError>
+    requires { length fresh.now ≤ 65535 }
+    ensures means { Gives result (strand_over bytes.now tokens.now draft.now intruder name nodes.now fresh.now vars.now) }
+    ensures named { IfOk result (λ strand. strand.name ≡ text_of bytes.now name) }
 {
-    for node in nodes {
-        if !is_msg_variable(bytes, tokens, *node) {
-            return false;
-        }
-    }
-    true
-}
-
-fn is_msg_variable(bytes: &[u8], tokens: &Tokens, node: &Node) -> bool
-    ensures { result ≡ is_msg_variable bytes.now tokens.now node.now }
-{
-    for child in node.children.as_slice() {
-        if child.symbol == VARIABLE_SORT && word_at(bytes, tokens, child) != b"Msg".as_slice() {
-            return false;
-        }
-    }
-    true
-}
-
-// Whether no name stands twice.
-fn are_apart(names: &[Name]) -> bool
-    ensures { result ≡ are_apart names.now }
-{
-    for i in 0..names.len() {
-        if is_listed(names[i].as_slice(), &names[i + 1..]) {
-            return false;
-        }
-    }
-    true
-}
-
-// Whether no name is that of an operator.
-#[tactic(auto, using(crate::proofs::Walks::all_step))]
-fn are_no_operators(sig: &Sig, names: &[Name]) -> bool
-    ensures { result ≡ list_all (λ name. is_none (number_of sig.now name)) names.now }
-{
-    for name in names {
-        if sig.number_of(name.as_slice()).is_some() {
-            return false;
-        }
-    }
-    true
+    let sorts = with_fresh(alloc, vars.sorts.as_slice(), fresh.len())?;
+    let names = joined(alloc, vars.names.as_slice(), fresh.as_slice())?;
+    let scope = scope_of(alloc, names.as_slice(), sorts.as_slice())?;
+    let events = listed(alloc, EVENT, NEXT_EVENT, nodes)?;
+    let events = match read_events(alloc, bytes, tokens, &draft.sig, &scope, events.as_slice()) {
+        Ok(events) => events,
+        Err(error) => return Err(error),
+    };
+    Ok(Strand {
+        name: List::from_slice(alloc, token_text(bytes, name))?,
+        intruder,
+        vars: List::from_slice(alloc, vars.sorts.as_slice())?,
+        fresh: fresh.len() as u16,
+        names,
+        events,
+    })
 }
 
 // The events of a strand.
@@ -218,19 +159,9 @@ fn read_event(
     ensures { Gives result (event_read bytes.now tokens.now sig.now scope.now node.now) }
 {
     let sent = node.head.kind == PLUS;
-    match read_term(alloc, bytes, tokens, sig, scope, node.children.as_slice()) {
+    let raw = raw_below(alloc, tokens, TERM, node.children.as_slice())?;
+    match read_message(alloc, bytes, sig, scope, &raw) {
         Ok(msg) => Ok(Event { sent, msg }),
         Err(error) => Err(error),
     }
-}
-
-// The symbols of all messages together; the number stops at `u64::MAX`.
-fn messages_count(events: &[Event]) -> u64
-    ensures { result ≡ min (messages_count events.now) (2 ^ 64 - 1) }
-{
-    let mut count = 0u64;
-    for event in events {
-        count = count.saturating_add(symbols(&event.msg));
-    }
-    count
 }

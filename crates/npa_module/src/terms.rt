@@ -1,55 +1,47 @@
-ghost use Rattle.std.specs.Prelude.{◌≡◌, ◌<◌, ◌^◌, length, IfOk};
-ghost use Rattle.npa_module.specs.Items.{Gives, term_read, scope_from};
+ghost use Rattle.npa_module.specs.Refusals.{Gives};
+ghost use Rattle.npa_module.specs.Items.{term_read, message_read};
 
+use crate::refusals::sort_refusal;
 use crate::source::ReadError;
-use npa_list::List;
-use npa_sig::{MSG, Scope, Scoped, Sig, UseFail, resolve};
-use npa_syntax::{Node, child_of};
-use npa_term::{Term, Var};
-use npa_text::symbols::TERM;
-use npa_text::{Name, Tokens, raw_of};
-use std::alloc::{AllocError, Global};
+use npa_sig::{FRESH, Scope, Sig, UseFail, resolve};
+use npa_term::Term;
+use npa_text::Raw;
+use std::alloc::Global;
 
-// The variables of the names, each of the sort of messages, numbered by their places.
-pub(crate) fn scope_of(alloc: Global, names: &[Name]) -> Result<Scope, AllocError>
-    requires { length names.now < 2 ^ 32 }
-    ensures { IfOk result (λ scope. scope ≡ scope_from 0 names.now) }
-{
-    let mut scope = List::new(alloc);
-    for num in 0..names.len() {
-        scope.push(Scoped {
-            name: List::from_slice(alloc, names[num].as_slice())?,
-            var: Var {
-                num: num as u32,
-                sort: MSG,
-            },
-        })?;
-    }
-    Ok(scope)
-}
-
-// The term of the first node for a term, with these variables.
+// The term that a term of a text stands for, with these variables.
 pub(crate) fn read_term(
     alloc: Global,
     bytes: &[u8],
-    tokens: &Tokens,
     sig: &Sig,
     scope: &Scope,
-    nodes: &[Node],
+    raw: &Raw,
 ) -> Result<Term, ReadError>
-    ensures { Gives result (term_read bytes.now tokens.now sig.now scope.now nodes.now) }
+    ensures { Gives result (term_read bytes.now sig.now scope.now raw.now) }
 {
-    let Some(node) = child_of(nodes, TERM) else {
-        return Err(ReadError::Later);
-    };
-    let raw = match raw_of(alloc, tokens, node) {
-        Ok(raw) => raw,
-        Err(_) => return Err(ReadError::NoMemory),
-    };
-    match resolve(alloc, sig, scope, bytes, &raw) {
+    match resolve(alloc, sig, scope, bytes, raw) {
         Ok(term) => Ok(term),
         Err(UseFail::NoMemory) => Err(ReadError::NoMemory),
-        Err(UseFail::Name { .. }) => Err(ReadError::Later),
-        Err(UseFail::Sort { .. }) => Err(ReadError::Later),
+        Err(UseFail::Name { name, line, col }) => Err(ReadError::Name { name, line, col }),
+        Err(UseFail::Sort { name, line, col }) => Err(ReadError::Sort { name, line, col }),
     }
+}
+
+// The same of a message or a fact, which isn't of the sort `Fresh`.
+pub(crate) fn read_message(
+    alloc: Global,
+    bytes: &[u8],
+    sig: &Sig,
+    scope: &Scope,
+    raw: &Raw,
+) -> Result<Term, ReadError>
+    ensures { Gives result (message_read bytes.now sig.now scope.now raw.now) }
+{
+    let term = match read_term(alloc, bytes, sig, scope, raw) {
+        Ok(term) => term,
+        Err(error) => return Err(error),
+    };
+    if sig.sort_of(&term) == FRESH {
+        return Err(sort_refusal(alloc, bytes, raw.head));
+    }
+    Ok(term)
 }

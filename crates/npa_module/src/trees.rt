@@ -1,8 +1,10 @@
 ghost use Rattle.std.specs.Prelude.{◌≡◌, IfOk};
-ghost use Rattle.npa_module.specs.Trees.{all_with, listed, has, below, word_at, word_of, kind_of, seen};
+ghost use Rattle.npa_text.specs.Raws.{no_token};
+ghost use Rattle.npa_module.specs.Trees.{all_with, listed, has, below, word_at, word_of, kind_of, seen, first_token, raw_below};
 
+use npa_list::List;
 use npa_syntax::{Node, child_of};
-use npa_text::{Tokens, token_at, token_text};
+use npa_text::{Kind, NoMemory, Raw, Token, Tokens, raw_of, token_at, token_text};
 use std::alloc::{AllocError, Global};
 
 /// The nodes for a nonterminal, in order.
@@ -76,5 +78,46 @@ pub fn word_of<'a>(bytes: &'a [u8], tokens: &Tokens, symbol: u8, nodes: &[Node])
     match child_of(nodes, symbol) {
         Some(node) => word_at(bytes, tokens, node),
         None => &[],
+    }
+}
+
+// What stands for the token of a node that isn't there.
+fn no_token() -> Token
+    ensures { result ≡ no_token }
+{
+    Token {
+        kind: Kind::Word,
+        start: 0,
+        end: 0,
+        line: 1,
+        col: 1,
+    }
+}
+
+/// The token of the first node for a nonterminal.
+pub fn first_token(tokens: &Tokens, symbol: u8, nodes: &[Node]) -> Token
+    ensures { result ≡ first_token tokens.now symbol nodes.now }
+{
+    match child_of(nodes, symbol) {
+        Some(node) => token_at(tokens, node),
+        None => no_token(),
+    }
+}
+
+/// The term of the first node for one.
+pub fn raw_below(
+    alloc: Global,
+    tokens: &Tokens,
+    symbol: u8,
+    nodes: &[Node],
+) -> Result<Raw, NoMemory>
+    ensures { IfOk result (λ raw. raw ≡ raw_below tokens.now symbol nodes.now) }
+{
+    match child_of(nodes, symbol) {
+        Some(node) => raw_of(alloc, tokens, node),
+        None => Ok(Raw {
+            head: no_token(),
+            args: List::new(alloc),
+        }),
     }
 }

@@ -1,8 +1,8 @@
-use Rattle.std.proofs.Common.{◌≡◌, ◌++◌, drop}
-use Rattle.std.specs.Option.{option_map}
+use Rattle.std.proofs.Common.{◌≡◌, drop}
 use Rattle.npa_module.specs.Trees.{seen}
 use Rattle.npa_module.specs.Items.{parts_read}
+use Rattle.npa_module.proofs.Reading.{with_front}
 use Rattle.npa_module.proofs.aims.read_parts.Given as goal
 
 abbrev pub invariant-loop-node : goal.invariant-loop-node
-invariant-loop-node l = parts_read l.bytes l.tokens l.sig (seen l.nodes) ≡ option_map (λ more. l.parts ++ more) (parts_read l.bytes l.tokens l.sig (seen (drop l.node-index l.nodes)))
+invariant-loop-node l = parts_read l.bytes l.tokens l.draft l.scope (seen l.nodes) ≡ with_front l.parts (parts_read l.bytes l.tokens l.draft l.scope (seen (drop l.node-index l.nodes)))
