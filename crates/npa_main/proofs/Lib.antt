@@ -1,6 +1,5 @@
+pub mod Tables
 pub mod RunLaws
-pub mod PlainLaws
-pub mod Loading
+pub mod OneRun
+pub mod OneModule
 pub mod Showing
-pub mod Unique
-pub mod Reaching

@@ -1,19 +1,23 @@
 -- What the program prints for its words and the texts that the files hold.
-use Rattle.std.specs.Prelude.{◌≡◌, ℕ, ◌≤◌, Bool, true, false, ◌||◌, nat_eq, List, [], ◌∷◌, Option, None, Some, IfSome, codes, length, slice_get, unwrap_or}
+use Rattle.std.specs.Prelude.{◌≡◌, ℕ, ◌≤◌, ◌<◌, Bool, true, false, ◌||◌, nat_eq, List, [], ◌∷◌, Option, None, Some, Result, Ok, Err, IfSome, codes, length, slice_get, unwrap_or}
 use Rattle.std.specs.List.{find}
 use Rattle.std.specs.Str.{bytes_eq}
 use Rattle.npa_term.specs.Canonical.{canonical}
 use Rattle.npa_text.specs.Counts.{Rose, appended, AppendsFront}
+use Rattle.npa_sig.specs.declared.fault.GroundFault.{GroundFault}
+use Rattle.npa_sig.specs.declared.protocol.Protocol.{Protocol}
+use Rattle.npa_sig.specs.Least.{IsGroundFault}
 use Rattle.npa_model.specs.declared.aim.Aim.{Aim}
 use Rattle.npa_model.specs.declared.run.Run.{Run}
 use Rattle.npa_model.specs.Aims.{Reaches}
 use Rattle.npa_module.specs.declared.source.Source.{Source}
-use Rattle.npa_module.specs.Modules.{IsModule}
+use Rattle.npa_module.specs.declared.source.ReadError.{ReadError}
+use Rattle.npa_module.specs.Modules.{Reads}
 use Rattle.npa_replay.specs.declared.answer.Replay.{Replay}
 use Rattle.npa_replay.specs.Replays.{IsTrueOf}
-use Rattle.npa_main.specs.RunTexts.{IsRunText}
-use Rattle.npa_main.specs.Texts.{usage_line, refused_later, refused_no_aim, invalid_later, answer_text, answer_status}
-use Rattle.npa_sig.specs.declared.protocol.Protocol.{Protocol}
+use Rattle.npa_main.specs.declared.run_text.RunTextFail.{RunTextFail}
+use Rattle.npa_main.specs.RunTexts.{ReadsRun}
+use Rattle.npa_main.specs.Texts.{usage_line, limit_bytes, refusal, ground_text, ground_status, refused_no_aim, invalid, answer_text, answer_status}
 
 -- the words are `replay` and three further words
 abbrev pub is_replay : List (List ℕ) → Bool
@@ -24,21 +28,38 @@ is_replay words = false
 abbrev pub word_at : List (List ℕ) → ℕ → List ℕ
 word_at words k = unwrap_or (slice_get words k) []
 
--- the text of at most 1,048,576 bytes stands for the module
-pub record IsModuleText (text : List ℕ) (source : Source) : Type 0 where
+-- ## What a file's text stands for
+
+-- a text that is too long
+abbrev pub IsLong : List ℕ → Type 0
+IsLong text = 1048576 < length text
+
+-- a text that isn't too long is read as this module, or refused so
+pub record IsModuleText (read : Result Source ReadError) (text : List ℕ) : Type 0 where
   pub short : length text ≤ 1048576
-  pub stands : IsModule text source
+  pub reads : Reads text read
 
--- the text stands for no module, and for no run
-abbrev pub NoModule : List ℕ → Type 0
-NoModule text = (source : Source) → IsModuleText text source → ⊥
+-- and this run of a protocol, or this refusal
+pub record IsRunText (protocol : Protocol) (read : Result Run RunTextFail) (text : List ℕ) : Type 0 where
+  pub short : length text ≤ 1048576
+  pub reads : ReadsRun protocol text read
 
-abbrev pub NoRun : Protocol → List ℕ → Type 0
-NoRun protocol text = (run : Run) → IsRunText protocol text run → ⊥
+-- what is wrong with the ground terms of a module's sorts, if something is
+abbrev pub HasGroundFault : Source → Option GroundFault → Type 0
+HasGroundFault source fault = IsGroundFault source.protocol.sig fault
 
 -- the first aim of a name
 abbrev pub aim_named : List ℕ → List Aim → Option Aim
 aim_named name aims = find (λ aim. bytes_eq aim.name name) aims
+
+-- The file holds this module, nothing is wrong with its sorts, and it has this aim of the name. Where
+-- nothing is told of what the file holds, nothing is said of it.
+pub record Passes (told : Option (List ℕ)) (name : List ℕ) (source : Source) (aim : Aim) : Type 0 where
+  pub module_is : IfSome told (IsModuleText (Ok source))
+  pub faultless : HasGroundFault source None
+  pub aim_is : aim_named name source.aims ≡ Some aim
+
+-- ## The text and the status
 
 -- the text and the status for an answer that is true of the run
 pub record Replayed (protocol : Protocol) (aim : Aim) (run : Run) (text : List ℕ) (status : ℕ) : Type 0 where
@@ -47,75 +68,107 @@ pub record Replayed (protocol : Protocol) (aim : Aim) (run : Run) (text : List �
   pub text_is : text ≡ answer_text protocol run answer
   pub status_is : status ≡ answer_status answer
 
--- The text and the status for these words, where `told` is what a name's file holds as far as that is
--- known: of a text that isn't known nothing is said.
-pub data Shown (told : List ℕ → Option (List ℕ)) (words : List (List ℕ)) : List ℕ → ℕ → Type 0 where
-  usage : is_replay words ≡ false → Shown told words usage_line 2
-  no_module : is_replay words ≡ true → IfSome (told (word_at words 1)) NoModule → Shown told words refused_later 3
-  no_aim : (source : Source) → is_replay words ≡ true → IfSome (told (word_at words 1)) (λ text. IsModuleText text source) →
-      aim_named (word_at words 2) source.aims ≡ None → Shown told words (refused_no_aim (word_at words 2)) 3
-  no_run : (source : Source) (aim : Aim) → is_replay words ≡ true → IfSome (told (word_at words 1)) (λ text. IsModuleText text source) →
-      aim_named (word_at words 2) source.aims ≡ Some aim → IfSome (told (word_at words 3)) (NoRun source.protocol) → Shown told words invalid_later 9
-  replayed : (source : Source) (aim : Aim) (run : Run) (text : List ℕ) (status : ℕ) → is_replay words ≡ true →
-      IfSome (told (word_at words 1)) (λ text. IsModuleText text source) → aim_named (word_at words 2) source.aims ≡ Some aim →
-      IfSome (told (word_at words 3)) (λ text. IsRunText source.protocol text run) → Replayed source.protocol aim run text status → Shown told words text status
+-- The text and the status that follow from the second file, where `told` is what it holds, as far as
+-- that is known, and `rose` says that the count of its reads that were too long rose.
+pub data ShownOfRun (told : Option (List ℕ)) (rose : Type 0) (protocol : Protocol) (aim : Aim) : List ℕ → ℕ → Type 0 where
+  long_run : rose → IfSome told IsLong → ShownOfRun told rose protocol aim limit_bytes 7
+  refused_run : (fail : RunTextFail) (text : List ℕ) → IfSome told (IsRunText protocol (Err fail)) → invalid fail ≡ Some text → ShownOfRun told rose protocol aim text 9
+  replayed : (run : Run) (text : List ℕ) (status : ℕ) → IfSome told (IsRunText protocol (Ok run)) → Replayed protocol aim run text status → ShownOfRun told rose protocol aim text status
 
--- the texts of both files are known
-pub record AreTold (told : List ℕ → Option (List ℕ)) (words : List (List ℕ)) : Type 0 where
-  pub file : List ℕ
-  pub run : List ℕ
-  pub file_is : told (word_at words 1) ≡ Some file
-  pub run_is : told (word_at words 3) ≡ Some run
+-- The text and the status that follow from both files and the aim's name.
+pub data ShownOfModule (told : Option (List ℕ)) (rose : Type 0) (run_told : Option (List ℕ)) (run_rose : Type 0) (name : List ℕ) : List ℕ → ℕ → Type 0 where
+  long_module : rose → IfSome told IsLong → ShownOfModule told rose run_told run_rose name limit_bytes 7
+  refused_module : (error : ReadError) (text : List ℕ) (status : ℕ) → IfSome told (IsModuleText (Err error)) → refusal error ≡ Some (text, status) → ShownOfModule told rose run_told run_rose name text status
+  groundless : (source : Source) (fault : GroundFault) → IfSome told (IsModuleText (Ok source)) → HasGroundFault source (Some fault) →
+      ShownOfModule told rose run_told run_rose name (ground_text source.protocol.sig fault) (ground_status fault)
+  no_aim : (source : Source) → IfSome told (IsModuleText (Ok source)) → HasGroundFault source None → aim_named name source.aims ≡ None → ShownOfModule told rose run_told run_rose name (refused_no_aim name) 3
+  of_run : (source : Source) (aim : Aim) (text : List ℕ) (status : ℕ) → Passes told name source aim → ShownOfRun run_told run_rose source.protocol aim text status →
+      ShownOfModule told rose run_told run_rose name text status
+
+-- The text and the status for these words, where `told` is what a name's file holds as far as that is
+-- known: of a text that isn't known nothing is said. `rose` says that the count of a name's reads that
+-- were too long rose.
+pub data Shown (told : List ℕ → Option (List ℕ)) (rose : List ℕ → Type 0) (words : List (List ℕ)) : List ℕ → ℕ → Type 0 where
+  usage : is_replay words ≡ false → Shown told rose words usage_line 2
+  of_module : (text : List ℕ) (status : ℕ) → is_replay words ≡ true →
+      ShownOfModule (told (word_at words 1)) (rose (word_at words 1)) (told (word_at words 3)) (rose (word_at words 3)) (word_at words 2) text status → Shown told rose words text status
+
+-- ## No other text and status
+
+-- what the file holds is known
+abbrev pub IsTold : Option (List ℕ) → Type 0
+IsTold told = (text : List ℕ) × (told ≡ Some text)
+
+-- what the first file holds is known, and what the second does, where the module passes and has the aim
+pub record AreToldOf (told run_told : Option (List ℕ)) (name : List ℕ) : Type 0 where
+  pub module_told : IsTold told
+  pub run_is_told : (source : Source) (aim : Aim) → Passes told name source aim → IsTold run_told
+
+-- what the files hold that the words need is known
+abbrev pub AreTold : (List ℕ → Option (List ℕ)) → List (List ℕ) → Type 0
+AreTold told words = is_replay words ≡ true → AreToldOf (told (word_at words 1)) (told (word_at words 3)) (word_at words 2)
 
 -- no other text and status are so
 abbrev pub IsOnly : (List ℕ → ℕ → Type 0) → List ℕ → ℕ → Type 0
 IsOnly Holds text status = (other : List ℕ) (number : ℕ) → Holds other number → (other ≡ text) × (number ≡ status)
 
--- The text and the status are for these words, and where both files' texts are known, no others are.
-pub record IsFor (told : List ℕ → Option (List ℕ)) (words : List (List ℕ)) (text : List ℕ) (status : ℕ) : Type 0 where
-  pub shown : Shown told words text status
-  pub only : AreTold told words → IsOnly (Shown told words) text status
+-- The text and the status are so, and where enough is known, no others are, whatever the counts did.
+pub record IsTheOne (known : Type 0) (Holds Anyhow : List ℕ → ℕ → Type 0) (text : List ℕ) (status : ℕ) : Type 0 where
+  pub shown : Holds text status
+  pub only : known → IsOnly Anyhow text status
 
--- the text stands for no module but the one that was loaded
-abbrev pub NoOtherModule : List ℕ → Option Source → Type 0
-NoOtherModule text loaded = (source : Source) → IsModuleText text source → loaded ≡ Some source
+-- for the second file
+abbrev pub IsForRun : Option (List ℕ) → Type 0 → Protocol → Aim → List ℕ → ℕ → Type 0
+IsForRun told rose protocol aim text status = IsTheOne (IsTold told) (ShownOfRun told rose protocol aim) (ShownOfRun told (Unit {0}) protocol aim) text status
 
--- the text stands for no run but the one that was loaded
-abbrev pub NoOtherRun : Protocol → List ℕ → Option Run → Type 0
-NoOtherRun protocol text loaded = (run : Run) → IsRunText protocol text run → loaded ≡ Some run
+-- for both files and the aim's name
+abbrev pub IsForModule : Option (List ℕ) → Type 0 → Option (List ℕ) → Type 0 → List ℕ → List ℕ → ℕ → Type 0
+IsForModule told rose run_told run_rose name text status =
+    IsTheOne (AreToldOf told run_told name) (ShownOfModule told rose run_told run_rose name) (ShownOfModule told (Unit {0}) run_told (Unit {0}) name) text status
+
+-- The text and the status are for these words, and where the files' texts are known, no others are.
+abbrev pub IsFor : (List ℕ → Option (List ℕ)) → (List ℕ → Type 0) → List (List ℕ) → List ℕ → ℕ → Type 0
+IsFor told rose words text status = IsTheOne (AreTold told words) (Shown told rose words) (Shown told (λ n. Unit {0}) words) text status
+
+-- ## What is written
+
+-- the counts of a name's reads that were too long, before and after
+abbrev pub RoseFor : (List ℕ → ℕ) → (List ℕ → ℕ) → List ℕ → Type 0
+RoseFor before after name = Rose (before name) (after name)
 
 -- The statuses with which a text is printed whole.
 abbrev pub is_told : ℕ → Bool
-is_told status = nat_eq status 0 || nat_eq status 2 || nat_eq status 3 || nat_eq status 9
+is_told status = nat_eq status 0 || nat_eq status 2 || nat_eq status 3 || nat_eq status 7 || nat_eq status 9
 
 -- the text for the words, with this status, stands behind what was written
-pub record Prints (told : List ℕ → Option (List ℕ)) (words : List (List ℕ)) (before after : Option (List ℕ)) (status : ℕ) : Type 0 where
+pub record Prints (told : List ℕ → Option (List ℕ)) (rose : List ℕ → Type 0) (words : List (List ℕ)) (before after : Option (List ℕ)) (status : ℕ) : Type 0 where
   pub text : List ℕ
-  pub shown : IsFor told words text status
+  pub shown : IsFor told rose words text status
   pub written : after ≡ appended before text
 
 -- no more than a front of the text for the words stands behind what was written
-pub record PrintsFront (told : List ℕ → Option (List ℕ)) (words : List (List ℕ)) (before after : Option (List ℕ)) : Type 0 where
+pub record PrintsFront (told : List ℕ → Option (List ℕ)) (rose : List ℕ → Type 0) (words : List (List ℕ)) (before after : Option (List ℕ)) : Type 0 where
   pub text : List ℕ
   pub status : ℕ
-  pub shown : IsFor told words text status
+  pub shown : IsFor told rose words text status
   pub front : AppendsFront before after text
 
--- The words ask for a replay, the files hold a module and a run of its protocol, and the run reaches
--- the module's aim of that name.
+-- The words ask for a replay, the files hold a module that passes and a run of its protocol, and the
+-- run reaches the module's aim of that name.
 pub record RunReaches (told : List ℕ → Option (List ℕ)) (words : List (List ℕ)) : Type 0 where
   pub source : Source
   pub aim : Aim
   pub run : Run
   pub command : is_replay words ≡ true
-  pub module_is : IfSome (told (word_at words 1)) (λ text. IsModuleText text source)
-  pub aim_is : aim_named (word_at words 2) source.aims ≡ Some aim
-  pub run_is : IfSome (told (word_at words 3)) (λ text. IsRunText source.protocol text run)
+  pub passes : Passes (told (word_at words 1)) (word_at words 2) source aim
+  pub run_is : IfSome (told (word_at words 3)) (IsRunText source.protocol (Ok run))
   pub reaches : Reaches canonical source.protocol aim run
 
 -- A fault of reading shows in the count of the first file, or in that of the second, which is read only
--- where the module is one and has the aim.
-pub data ReadFault (told : List ℕ → Option (List ℕ)) (before after : List ℕ → ℕ) (words : List (List ℕ)) : Type 0 where
-  first : is_replay words ≡ true → Rose (before (word_at words 1)) (after (word_at words 1)) → ReadFault told before after words
-  second : (source : Source) (aim : Aim) → is_replay words ≡ true → IfSome (told (word_at words 1)) (λ text. IsModuleText text source) →
-      aim_named (word_at words 2) source.aims ≡ Some aim → Rose (before (word_at words 3)) (after (word_at words 3)) → ReadFault told before after words
+-- where the module passes and has the aim.
+pub data ReadFaultOf (told : Option (List ℕ)) (name : List ℕ) (rose run_rose : Type 0) : Type 0 where
+  first : rose → ReadFaultOf told name rose run_rose
+  second : (source : Source) (aim : Aim) → Passes told name source aim → run_rose → ReadFaultOf told name rose run_rose
+
+abbrev pub ReadFault : (List ℕ → Option (List ℕ)) → (List ℕ → Type 0) → List (List ℕ) → Type 0
+ReadFault told rose words = (is_replay words ≡ true) × ReadFaultOf (told (word_at words 1)) (word_at words 2) (rose (word_at words 1)) (rose (word_at words 3))

@@ -1,3 +1,4 @@
 pub mod RunTexts
 pub mod Texts
 pub mod Answers
+pub mod Loads

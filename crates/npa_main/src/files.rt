@@ -1,13 +1,14 @@
 //! The module and the run that files hold.
 
-ghost use Rattle.std.specs.Prelude.{◌≡◌, ◌≤◌, ◌<◌, ℕ, List, length, IfOk, IfSome, MatchOption};
+ghost use Rattle.std.specs.Prelude.{◌≡◌, ◌≤◌, ◌<◌, ℕ, List, length, IfOk, IfSome, IfNone, MatchOption};
 ghost use Rattle.std.specs.Result.{IsErrOf};
 ghost use Rattle.npa_text.specs.Counts.{Rose};
-ghost use Rattle.npa_module.specs.Forms.{IsPlain};
-ghost use Rattle.npa_main.specs.RunTexts.{IsRunText, IsGroundRun};
-ghost use Rattle.npa_main.specs.Answers.{IsModuleText, NoModule, NoOtherModule, NoRun, NoOtherRun};
+ghost use Rattle.npa_model.specs.WellFormed.{IsWellFormedRun};
+ghost use Rattle.npa_module.specs.Forms.{IsWellFormedSource};
+ghost use Rattle.npa_main.specs.Answers.{IsLong, IsModuleText, IsRunText};
+ghost use Rattle.npa_main.specs.Loads.{IsLoadedOf, IsOnlyLoadedOf, IfRead, OnTooLong};
 
-use crate::run_text::{RunError, read_run};
+use crate::run_text::{RunTextFail, read_run};
 use npa_model::Run;
 use npa_module::{ReadError, Source, read};
 use npa_sig::Protocol;
@@ -46,12 +47,25 @@ impl From<NoMemory> for Halt {
     }
 }
 
+/// What was loaded of a file.
+#[derive(Debug, Drop)]
+pub(crate) enum Loaded<T, E> {
+    /// The file has more than 1,048,576 bytes.
+    TooLong,
+    /// Its text stands for nothing, for this reason.
+    Refused(E),
+    /// What its text stands for.
+    Read(T),
+}
+
 // The bytes of a file, or `None` where it has more than a text may have.
 fn load<F: Files>(alloc: Global, files: &mut F, name: &str) -> Result<Option<Vec<u8>>, Halt>
     ensures texts_stay { (n : List ℕ) → F.holds files.new n ≡ F.holds files.old n }
     ensures faults_stay { (n : List ℕ) → F.faults files.old n ≤ F.faults files.new n }
+    ensures longs_stay { (n : List ℕ) → F.longs files.old n ≤ F.longs files.new n }
     ensures short { IfOk result (λ loaded. IfSome loaded (λ bytes. length bytes.items ≤ 1048576)) }
-    ensures told { IfOk result (λ loaded. IfSome (F.holds files.old name.now) (λ text. MatchOption loaded (1048576 < length text) (λ bytes. bytes.items ≡ text))) }
+    ensures told { IfOk result (λ loaded. IfSome (F.holds files.old name.now) (λ text. MatchOption loaded (IsLong text) (λ bytes. bytes.items ≡ text))) }
+    ensures long { IfOk result (λ loaded. IfNone loaded (Rose (F.longs files.old name.now) (F.longs files.new name.now))) }
     ensures fault { IsErrOf result Halt.Fault → Rose (F.faults files.old name.now) (F.faults files.new name.now) }
 {
     let mut bytes = Vec::new(alloc);
@@ -63,52 +77,56 @@ fn load<F: Files>(alloc: Global, files: &mut F, name: &str) -> Result<Option<Vec
     }
 }
 
-/// The module that a file holds, or `None` where it holds none that is read so far.
+/// The module that a file holds, or why it holds none.
 pub(crate) fn load_module<F: Files>(
     alloc: Global,
     files: &mut F,
     name: &str,
-) -> Result<Option<Source>, Halt>
+) -> Result<Loaded<Source, ReadError>, Halt>
     ensures texts_stay { (n : List ℕ) → F.holds files.new n ≡ F.holds files.old n }
     ensures faults_stay { (n : List ℕ) → F.faults files.old n ≤ F.faults files.new n }
-    ensures told { IfOk result (λ loaded. IfSome (F.holds files.old name.now) (λ text. MatchOption loaded (NoModule text) (λ source. IsModuleText text source))) }
-    ensures only { IfOk result (λ loaded. IfSome (F.holds files.old name.now) (λ text. NoOtherModule text loaded)) }
-    ensures form { IfOk result (λ loaded. IfSome loaded IsPlain) }
+    ensures longs_stay { (n : List ℕ) → F.longs files.old n ≤ F.longs files.new n }
+    ensures told { IfOk result (λ loaded. IfSome (F.holds files.old name.now) (λ text. IsLoadedOf IsModuleText text loaded)) }
+    ensures only { IfOk result (λ loaded. IfSome (F.holds files.old name.now) (λ text. IsOnlyLoadedOf IsModuleText text loaded)) }
+    ensures long { IfOk result (λ loaded. OnTooLong loaded (Rose (F.longs files.old name.now) (F.longs files.new name.now))) }
+    ensures form { IfOk result (λ loaded. IfRead loaded IsWellFormedSource) }
     ensures fault { IsErrOf result Halt.Fault → Rose (F.faults files.old name.now) (F.faults files.new name.now) }
 {
     let bytes = match load(alloc, files, name)? {
         Some(bytes) => bytes,
-        None => return Ok(None),
+        None => return Ok(Loaded::TooLong),
     };
     match read(alloc, bytes.as_slice()) {
-        Ok(source) => Ok(Some(source)),
-        Err(ReadError::Later) => Ok(None),
+        Ok(source) => Ok(Loaded::Read(source)),
         Err(ReadError::NoMemory) => Err(Halt::NoMemory),
+        Err(error) => Ok(Loaded::Refused(error)),
     }
 }
 
-/// The run of the protocol that a file holds, or `None` where it holds none that is read so far.
+/// The run of the protocol that a file holds, or why it holds none.
 pub(crate) fn load_run<F: Files>(
     alloc: Global,
     files: &mut F,
     name: &str,
     protocol: &Protocol,
-) -> Result<Option<Run>, Halt>
+) -> Result<Loaded<Run, RunTextFail>, Halt>
     requires few { length protocol.now.strands ≤ 65535 }
     ensures texts_stay { (n : List ℕ) → F.holds files.new n ≡ F.holds files.old n }
     ensures faults_stay { (n : List ℕ) → F.faults files.old n ≤ F.faults files.new n }
-    ensures told { IfOk result (λ loaded. IfSome (F.holds files.old name.now) (λ text. MatchOption loaded (NoRun protocol.now text) (λ run. IsRunText protocol.now text run))) }
-    ensures only { IfOk result (λ loaded. IfSome (F.holds files.old name.now) (λ text. NoOtherRun protocol.now text loaded)) }
-    ensures form { IfOk result (λ loaded. IfSome loaded IsGroundRun) }
+    ensures longs_stay { (n : List ℕ) → F.longs files.old n ≤ F.longs files.new n }
+    ensures told { IfOk result (λ loaded. IfSome (F.holds files.old name.now) (λ text. IsLoadedOf (IsRunText protocol.now) text loaded)) }
+    ensures only { IfOk result (λ loaded. IfSome (F.holds files.old name.now) (λ text. IsOnlyLoadedOf (IsRunText protocol.now) text loaded)) }
+    ensures long { IfOk result (λ loaded. OnTooLong loaded (Rose (F.longs files.old name.now) (F.longs files.new name.now))) }
+    ensures form { IfOk result (λ loaded. IfRead loaded (IsWellFormedRun protocol.now.sig)) }
     ensures fault { IsErrOf result Halt.Fault → Rose (F.faults files.old name.now) (F.faults files.new name.now) }
 {
     let bytes = match load(alloc, files, name)? {
         Some(bytes) => bytes,
-        None => return Ok(None),
+        None => return Ok(Loaded::TooLong),
     };
     match read_run(alloc, protocol, bytes.as_slice()) {
-        Ok(run) => Ok(Some(run)),
-        Err(RunError::Later) => Ok(None),
-        Err(RunError::NoMemory) => Err(Halt::NoMemory),
+        Ok(run) => Ok(Loaded::Read(run)),
+        Err(RunTextFail::NoMemory) => Err(Halt::NoMemory),
+        Err(fail) => Ok(Loaded::Refused(fail)),
     }
 }

@@ -5,6 +5,7 @@ mod files;
 mod printing;
 mod program;
 mod run_text;
+mod strand_table;
 
 use npa_list::List;
 use npa_text::{RealFiles, RealOut, Word, Words};

@@ -1,20 +1,22 @@
 //! The program for words of a command line, over any files and any place to write to.
 
-ghost use Rattle.std.specs.Prelude.{◌≡◌, ◌⊎◌, ℕ, List, true, IfOk, IfSome};
+ghost use Rattle.std.specs.Prelude.{◌≡◌, ◌⊎◌, ◌≤◌, ℕ, List, true, length, IfOk, IfSome};
 ghost use Rattle.std.specs.Option.{option_copied};
 ghost use Rattle.std.specs.Result.{IsErrOf};
 ghost use Rattle.npa_text.specs.Counts.{Rose};
-ghost use Rattle.npa_module.specs.Forms.{IsPlain, IsPlainAim};
-ghost use Rattle.npa_main.specs.RunTexts.{IsGroundRun};
-ghost use Rattle.npa_main.specs.Answers.{IsFor, IsOnly, AreTold, Replayed, ReadFault, Prints, PrintsFront, RunReaches, is_told, is_replay, word_at, aim_named};
+ghost use Rattle.npa_model.specs.WellFormed.{IsWellFormedAim, IsWellFormedRun};
+ghost use Rattle.npa_module.specs.Forms.{IsWellFormedSource};
+ghost use Rattle.npa_main.specs.Answers.{IsFor, IsForRun, IsForModule, IsOnly, AreTold, Replayed, HasGroundFault, ReadFault, ReadFaultOf, Prints, PrintsFront, RunReaches, RoseFor, is_told, is_replay, word_at, aim_named};
 
-use crate::files::{Halt, load_module, load_run};
+use crate::files::{Halt, Loaded, load_module, load_run};
 use crate::printing::{
-    INVALID_LATER, REFUSED_LATER, USAGE, answer_status, answer_text, refused_no_aim,
+    LIMIT_BYTES, Printed, USAGE, answered, groundless, invalid, refusal, refused_no_aim, told,
 };
 use npa_model::{Aim, Run};
 use npa_module::Source;
 use npa_replay::replay;
+use npa_sig::GroundFault;
+use npa_term::NoMemory;
 use npa_text::{Files, PutFail, Sink, Words};
 use std::alloc::Global;
 
@@ -22,21 +24,16 @@ use std::alloc::Global;
 #[derive(Clone, Copy, Debug, PartialEq, Eq)]
 pub struct Ended {
     /// 0 where the run reaches the aim, 2 for words that are no command, 3 for a module that is
-    /// refused, 4 for a file that can't be read, 5 for a text that can't be written, 8 for want of
-    /// memory, 9 for a run that is refused, breaks or misses a part.
+    /// refused, 4 for a file that can't be read, 5 for a text that can't be written, 7 where a limit is
+    /// passed, 8 for want of memory, 9 for a run that is refused, breaks or misses a part.
     pub status: u8,
 }
 
-// A text to print, and the status.
-#[derive(Debug, Drop)]
-struct Printed {
-    text: Vec<u8>,
-    status: u8,
-}
-
 /// Does what the words ask for: `replay FILE AIM RUN` replays the run of the file RUN against an aim
-/// of the module of FILE. The text is made first and written at once.
-#[tactic(auto, using(crate::proofs::Reaching::reached_status))]
+/// of the module of FILE. The module's text is looked at first: its length, its syntax, its limits, its
+/// names and sorts, and the ground terms of its sorts; then the aim's name; then the run's text in the
+/// same way; and then the run. The text is made first and written at once.
+#[tactic(auto, using(crate::proofs::Showing::reached_status, crate::proofs::Showing::told_reaches, crate::proofs::Showing::told_status))]
 pub fn npa_plain<F: Files, K: Sink>(
     alloc: Global,
     words: &Words,
@@ -45,7 +42,7 @@ pub fn npa_plain<F: Files, K: Sink>(
 ) -> Ended
     // The whole text for the words is written, with its status.
     ensures printed { is_told result.status ≡ true
-        → Prints (F.holds files.old) words.now (K.written out.old) (K.written out.new) result.status }
+        → Prints (F.holds files.old) (RoseFor (F.longs files.old) (F.longs files.new)) words.now (K.written out.old) (K.written out.new) result.status }
 
     // `reaches` comes only of a run that reaches the aim, and where the files' texts are known, of
     // each such run whose text is written.
@@ -53,77 +50,109 @@ pub fn npa_plain<F: Files, K: Sink>(
     ensures reached { is_told result.status ≡ true → AreTold (F.holds files.old) words.now
         → RunReaches (F.holds files.old) words.now → result.status ≡ 0 }
     ensures unread { result.status ≡ 4
-        → ReadFault (F.holds files.old) (F.faults files.old) (F.faults files.new) words.now }
+        → ReadFault (F.holds files.old) (RoseFor (F.faults files.old) (F.faults files.new)) words.now }
     ensures unwritten { result.status ≡ 5 → Rose (K.faults out.old) (K.faults out.new) }
     ensures front { result.status ≡ 5
-        → PrintsFront (F.holds files.old) words.now (K.written out.old) (K.written out.new) }
+        → PrintsFront (F.holds files.old) (RoseFor (F.longs files.old) (F.longs files.new)) words.now (K.written out.old) (K.written out.new) }
 
     // Where a file can't be read, or memory is wanting, nothing is written.
     ensures nothing { (result.status ≡ 4) ⊎ (result.status ≡ 8) → K.written out.new ≡ K.written out.old }
     ensures statuses { (is_told result.status ≡ true) ⊎ ((result.status ≡ 4) ⊎ ((result.status ≡ 5) ⊎ (result.status ≡ 8))) }
 {
-    let status = match text_for(alloc, words, files) {
-        Ok(answer) => match out.put(answer.text.as_slice()) {
-            Ok(()) => answer.status,
-            Err(PutFail::Fault) => 5,
-            Err(PutFail::NoMemory) => 8,
-        },
-        Err(Halt::Fault) => 4,
-        Err(Halt::NoMemory) => 8,
+    let answer = match text_for(alloc, words, files) {
+        Ok(answer) => answer,
+        Err(Halt::Fault) => return Ended { status: 4 },
+        Err(Halt::NoMemory) => return Ended { status: 8 },
     };
-    Ended { status }
+    match out.put(answer.text.as_slice()) {
+        Ok(()) => Ended {
+            status: answer.status,
+        },
+        Err(PutFail::Fault) => Ended { status: 5 },
+        Err(PutFail::NoMemory) => Ended { status: 8 },
+    }
 }
 
 // The text and the status for the words.
 fn text_for<F: Files>(alloc: Global, words: &Words, files: &mut F) -> Result<Printed, Halt>
-    ensures shown { IfOk result (λ a. IsFor (F.holds files.old) words.now a.text.items a.status) }
+    ensures shown { IfOk result (λ a. IsFor (F.holds files.old) (RoseFor (F.longs files.old) (F.longs files.new)) words.now a.text.items a.status) }
     ensures fault { IsErrOf result Halt.Fault
-        → ReadFault (F.holds files.old) (F.faults files.old) (F.faults files.new) words.now }
+        → ReadFault (F.holds files.old) (RoseFor (F.faults files.old) (F.faults files.new)) words.now }
 {
     if !is_replay(words) {
-        return told(alloc, USAGE, 2);
+        return Ok(told(alloc, USAGE, 2)?);
     }
-    let source = match load_module(alloc, files, word(words, 1))? {
-        Some(source) => source,
-        None => return told(alloc, REFUSED_LATER, 3),
+    module_text(alloc, files, word(words, 1), word(words, 2), word(words, 3))
+}
+
+// The text and the status that follow from both files and the aim's name.
+fn module_text<F: Files>(
+    alloc: Global,
+    files: &mut F,
+    file: &str,
+    name: &str,
+    run: &str,
+) -> Result<Printed, Halt>
+    ensures shown { IfOk result (λ a. IsForModule (F.holds files.old file.now) (RoseFor (F.longs files.old) (F.longs files.new) file.now)
+        (F.holds files.old run.now) (RoseFor (F.longs files.old) (F.longs files.new) run.now) name.now a.text.items a.status) }
+    ensures fault { IsErrOf result Halt.Fault
+        → ReadFaultOf (F.holds files.old file.now) name.now (RoseFor (F.faults files.old) (F.faults files.new) file.now) (RoseFor (F.faults files.old) (F.faults files.new) run.now) }
+{
+    let source = match load_module(alloc, files, file)? {
+        Loaded::Read(source) => source,
+        Loaded::TooLong => return Ok(told(alloc, LIMIT_BYTES, 7)?),
+        Loaded::Refused(error) => return Ok(refusal(alloc, &error)?),
     };
-    let aim = match find_aim(source.aims.as_slice(), word(words, 2).as_bytes()) {
-        Some(aim) => aim,
-        None => {
-            let text = refused_no_aim(alloc, word(words, 2).as_bytes())?;
-            return Ok(Printed { text, status: 3 });
-        }
-    };
-    let run = match load_run(alloc, files, word(words, 3), &source.protocol) {
-        Ok(Some(run)) => run,
-        Ok(None) => return told(alloc, INVALID_LATER, 9),
-        Err(halt) => return Err(halt),
-    };
-    replayed(alloc, &source, aim, &run)
+    match ground_fault(alloc, &source)? {
+        Some(fault) => Ok(groundless(alloc, &source.protocol.sig, fault)?),
+        None => match find_aim(source.aims.as_slice(), name.as_bytes()) {
+            Some(aim) => run_text(alloc, files, run, &source, aim),
+            None => Ok(refused_no_aim(alloc, name.as_bytes())?),
+        },
+    }
+}
+
+// The text and the status that follow from the second file.
+fn run_text<F: Files>(
+    alloc: Global,
+    files: &mut F,
+    name: &str,
+    source: &Source,
+    aim: &Aim,
+) -> Result<Printed, Halt>
+    requires source { IsWellFormedSource source.now }
+    requires aim { IsWellFormedAim source.now.protocol.sig source.now.protocol.strands aim.now }
+    ensures shown { IfOk result (λ a. IsForRun (F.holds files.old name.now) (RoseFor (F.longs files.old) (F.longs files.new) name.now) source.now.protocol aim.now a.text.items a.status) }
+    ensures fault { IsErrOf result Halt.Fault → RoseFor (F.faults files.old) (F.faults files.new) name.now }
+{
+    match load_run(alloc, files, name, &source.protocol)? {
+        Loaded::Read(run) => Ok(replayed(alloc, source, aim, &run)?),
+        Loaded::TooLong => Ok(told(alloc, LIMIT_BYTES, 7)?),
+        Loaded::Refused(fail) => Ok(invalid(alloc, &fail)?),
+    }
 }
 
 // The text for what comes of a run.
-fn replayed(alloc: Global, source: &Source, aim: &Aim, run: &Run) -> Result<Printed, Halt>
-    requires plain { IsPlain source.now }
-    requires aim { IsPlainAim aim.now }
-    requires run { IsGroundRun run.now }
+fn replayed(alloc: Global, source: &Source, aim: &Aim, run: &Run) -> Result<Printed, NoMemory>
+    requires source { IsWellFormedSource source.now }
+    requires aim { IsWellFormedAim source.now.protocol.sig source.now.protocol.strands aim.now }
+    requires run { IsWellFormedRun source.now.protocol.sig run.now }
     ensures replayed { IfOk result (λ a. Replayed source.now.protocol aim.now run.now a.text.items a.status) }
     ensures only { IfOk result (λ a. IsOnly (Replayed source.now.protocol aim.now run.now) a.text.items a.status) }
-    ensures read { IsErrOf result Halt.Fault → ⊥ }
 {
     let answer = replay(alloc, &source.protocol, aim, run)?;
-    let text = answer_text(alloc, &source.protocol, run, &answer)?;
-    let status = answer_status(&answer);
-    Ok(Printed { text, status })
+    answered(alloc, &source.protocol, run, &answer)
 }
 
-fn told(alloc: Global, line: &[u8], status: u8) -> Result<Printed, Halt>
-    ensures text { IfOk result (λ a. a.text.items ≡ line.now) }
-    ensures status { IfOk result (λ a. a.status ≡ status) }
-    ensures read { IsErrOf result Halt.Fault → ⊥ }
+// What is wrong with the ground terms of the module's sorts, if something is.
+fn ground_fault(alloc: Global, source: &Source) -> Result<Option<GroundFault>, NoMemory>
+    requires { IsWellFormedSource source.now }
+    ensures { IfOk result (HasGroundFault source.now) }
 {
-    let text = Vec::from_slice(alloc, line)?;
-    Ok(Printed { text, status })
+    match source.protocol.sig.ground_fault(alloc) {
+        Ok(fault) => Ok(fault),
+        Err(_) => Err(NoMemory),
+    }
 }
 
 // Whether the words are `replay` and three further words.

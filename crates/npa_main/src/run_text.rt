@@ -1,59 +1,84 @@
 //! Run texts.
 
-ghost use Rattle.std.specs.Prelude.{◌≡◌, ◌≤◌, ◌<◌, map, length, slice_get, IfOk};
+ghost use Rattle.std.specs.Prelude.{◌≡◌, ◌≤◌, map, length, IfOk};
 ghost use Rattle.npa_module.specs.Trees.{seen, word_at};
-ghost use Rattle.npa_main.specs.RunTexts.{IsRunText, AnswersRun, IsGroundRun, Gives, strand_of, same_names, args_of, chosen, params_at, value_read, values_read, instance_read, instances_read, step_at, run_of};
+ghost use Rattle.npa_model.specs.WellFormed.{IsWellFormedRun};
+ghost use Rattle.npa_main.specs.RunTexts.{IsTableOf, AnswersRun, OnlyRun, Gives, Tells, same_names, chosen, params_at, child_for, unknown, fail_of, refusal_of, value_read, values_read, instance_read, instances_read, step_at, run_of};
 
+use crate::strand_table::{StrandTable, table_of};
 use npa_list::List;
 use npa_model::{Instance, Instances, Places, Run};
-use npa_module::trees::{all_with, below, word_at, word_of};
-use npa_sig::{Protocol, Scope, Strand, UseFail, resolve};
+use npa_module::trees::{all_with, below, word_at};
+use npa_sig::{Protocol, Scope, UseFail, resolve};
 use npa_syntax::{Node, child_of};
 use npa_term::{Term, Terms};
 use npa_text::symbols::{GROUND, SCHEDULE, STEP, USED, USED_STRAND, VALUE};
-use npa_text::{Name, Parsed, TextFault, Tokens, number_of, parse, raw_of, run_grammar, token_at};
+use npa_text::{
+    Name, NoMemory, Parsed, TextFault, Token, Tokens, number_of, parse, raw_of, run_grammar,
+    token_at, token_text,
+};
 use std::alloc::{AllocError, AllocFailed, Global};
 use thiserror::Error;
 
-/// Why a run text wasn't read.
-#[derive(Clone, Copy, Debug, PartialEq, Eq, Error)]
-pub enum RunError {
-    /// The text isn't a run of the form that is read so far.
-    #[error("not a run that is read so far")]
-    Later,
+/// Why a run text wasn't read: the first fault of its syntax, and where there is none, the first word
+/// at fault in the order of the text. Lines and columns count from 1, a column is a byte.
+#[derive(Debug, Drop, Error)]
+pub enum RunTextFail {
+    /// The text isn't a run: the first token at which none can go on, or the first byte that begins
+    /// no token, or the end.
+    #[error("syntax fault at {line}:{col}")]
+    Syntax { line: u32, col: u32 },
+    /// The word names no strand, or no operator.
+    #[error("unknown name at {line}:{col}")]
+    Name { name: Name, line: u32, col: u32 },
+    /// The operator has a wrong number of arguments, or one of a wrong sort.
+    #[error("arguments that don't fit at {line}:{col}")]
+    Sort { name: Name, line: u32, col: u32 },
     #[error("out of memory")]
     NoMemory,
 }
 
-impl From<AllocError> for RunError {
-    ghost use Rattle.npa_main.specs.declared.run_text.RunError.TheVariants.{NoMemory as OutOfMemory};
+impl From<AllocError> for RunTextFail {
+    ghost use Rattle.npa_main.specs.declared.run_text.RunTextFail.TheVariants.{NoMemory as OutOfMemory};
 
     ghost from_gives = { λ _ e. e ≡ OutOfMemory };
 
-    fn from(_error: AllocError) -> RunError {
-        RunError::NoMemory
+    fn from(_error: AllocError) -> RunTextFail {
+        RunTextFail::NoMemory
     }
 }
 
-impl<T: Drop> From<AllocFailed<T>> for RunError {
-    ghost use Rattle.npa_main.specs.declared.run_text.RunError.TheVariants.{NoMemory as OutOfMemory};
+impl<T: Drop> From<AllocFailed<T>> for RunTextFail {
+    ghost use Rattle.npa_main.specs.declared.run_text.RunTextFail.TheVariants.{NoMemory as OutOfMemory};
 
     ghost from_gives = { λ _ e. e ≡ OutOfMemory };
 
-    fn from(_error: AllocFailed<T>) -> RunError {
-        RunError::NoMemory
+    fn from(_error: AllocFailed<T>) -> RunTextFail {
+        RunTextFail::NoMemory
     }
 }
 
-/// Reads a run text of a protocol. A text that isn't a run, that names a strand or an operator that
-/// isn't there, or has a form that isn't read so far, is `Later`.
+impl From<NoMemory> for RunTextFail {
+    ghost use Rattle.npa_main.specs.declared.run_text.RunTextFail.TheVariants.{NoMemory as OutOfMemory};
+
+    ghost from_gives = { λ _ e. e ≡ OutOfMemory };
+
+    fn from(_error: NoMemory) -> RunTextFail {
+        RunTextFail::NoMemory
+    }
+}
+
+/// Reads a run text of a protocol. The syntax of the whole text is looked at first; then the words, in
+/// the order of the text: a strand or an operator that isn't there is `Name`, an operator whose
+/// arguments don't fit is `Sort`. An instance that doesn't name each parameter of its strand once and
+/// in order is read with a wrong number of terms, so that the run breaks there.
 #[tactic(auto, using(crate::proofs::RunLaws::run_answer))]
-pub(crate) fn read_run(alloc: Global, protocol: &Protocol, bytes: &[u8]) -> Result<Run, RunError>
+pub fn read_run(alloc: Global, protocol: &Protocol, bytes: &[u8]) -> Result<Run, RunTextFail>
     requires short { length bytes.now ≤ 1048576 }
     requires few { length protocol.now.strands ≤ 65535 }
-    ensures found { IfOk result (IsRunText protocol.now bytes.now) }
-    ensures only { AnswersRun protocol.now bytes.now result }
-    ensures form { IfOk result IsGroundRun }
+    ensures answer { AnswersRun protocol.now bytes.now result }
+    ensures only { OnlyRun protocol.now bytes.now result }
+    ensures form { IfOk result (IsWellFormedRun protocol.now.sig) }
 {
     match parse(alloc, &run_grammar(), bytes) {
         Ok(Parsed { tokens, nodes }) => read_tree(
@@ -63,8 +88,17 @@ pub(crate) fn read_run(alloc: Global, protocol: &Protocol, bytes: &[u8]) -> Resu
             protocol,
             nodes.as_slice(),
         ),
-        Err(TextFault::Syntax { .. }) => Err(RunError::Later),
-        Err(TextFault::NoMemory) => Err(RunError::NoMemory),
+        Err(fault) => Err(fail_of(fault)),
+    }
+}
+
+// The refusal of a text that isn't one of the grammar.
+fn fail_of(fault: TextFault) -> RunTextFail
+    ensures { result ≡ fail_of fault }
+{
+    match fault {
+        TextFault::Syntax { line, col } => RunTextFail::Syntax { line, col },
+        TextFault::NoMemory => RunTextFail::NoMemory,
     }
 }
 
@@ -75,12 +109,13 @@ fn read_tree(
     tokens: &Tokens,
     protocol: &Protocol,
     nodes: &[Node],
-) -> Result<Run, RunError>
+) -> Result<Run, RunTextFail>
     requires { length protocol.now.strands ≤ 65535 }
     ensures { Gives result (run_of bytes.now tokens.now protocol.now nodes.now) }
 {
+    let strands = table_of(alloc, protocol.strands.as_slice())?;
     let used = all_with(alloc, USED, nodes)?;
-    let instances = read_instances(alloc, bytes, tokens, protocol, used.as_slice())?;
+    let instances = read_instances(alloc, bytes, tokens, protocol, &strands, used.as_slice())?;
     let steps = all_with(alloc, STEP, below(SCHEDULE, nodes))?;
     let schedule = steps_at(alloc, bytes, tokens, steps.as_slice())?;
     Ok(Run {
@@ -111,53 +146,72 @@ fn read_instances(
     bytes: &[u8],
     tokens: &Tokens,
     protocol: &Protocol,
+    strands: &StrandTable,
     nodes: &[&Node],
-) -> Result<Instances, RunError>
-    requires { length protocol.now.strands ≤ 65535 }
+) -> Result<Instances, RunTextFail>
+    requires { IsTableOf protocol.now.strands strands.now }
     ensures { Gives result (instances_read bytes.now tokens.now protocol.now (seen nodes.now)) }
 {
     let mut instances = List::new(alloc);
     for node in nodes {
-        instances.push(read_instance(alloc, bytes, tokens, protocol, *node)?)?;
+        match read_instance(alloc, bytes, tokens, protocol, strands, *node) {
+            Ok(instance) => instances.push(instance)?,
+            Err(fail) => return Err(fail),
+        }
     }
     Ok(instances)
 }
 
+// An instance: its strand, and the values of its parameters.
 fn read_instance(
     alloc: Global,
     bytes: &[u8],
     tokens: &Tokens,
     protocol: &Protocol,
+    strands: &StrandTable,
     node: &Node,
-) -> Result<Instance, RunError>
-    requires { length protocol.now.strands ≤ 65535 }
+) -> Result<Instance, RunTextFail>
+    requires { IsTableOf protocol.now.strands strands.now }
     ensures { Gives result (instance_read bytes.now tokens.now protocol.now node.now) }
 {
-    let nodes = node.children.as_slice();
-    let name = word_of(bytes, tokens, USED_STRAND, nodes);
-    let strand = match strand_of(name, protocol.strands.as_slice()) {
+    let name = token_at(tokens, child_for(USED_STRAND, node));
+    let strand = match strands.place(token_text(bytes, name)) {
         Some(strand) => strand,
-        None => return Err(RunError::Later),
+        None => return Err(unknown(alloc, bytes, name)),
     };
-    let values = all_with(alloc, VALUE, nodes)?;
-    let terms = read_values(alloc, bytes, tokens, protocol, values.as_slice())?;
+    let values = all_with(alloc, VALUE, node.children.as_slice())?;
+    let terms = match read_values(alloc, bytes, tokens, protocol, values.as_slice()) {
+        Ok(terms) => terms,
+        Err(fail) => return Err(fail),
+    };
     let params = params_at(protocol, strand);
     let named = same_names(bytes, tokens, values.as_slice(), params);
     let args = args_of(alloc, named, params.len(), terms)?;
     Ok(Instance { strand, args })
 }
 
-// The place of the first strand of a name.
-fn strand_of(name: &[u8], strands: &[Strand]) -> Option<u16>
-    requires { length strands.now ≤ 65535 }
-    ensures { result ≡ strand_of name.now strands.now }
+// The first child of a node for a nonterminal, or the node itself, which no tree of a run needs.
+fn child_for(symbol: u8, node: &Node) -> &Node
+    ensures { result.now ≡ child_for symbol node.now }
 {
-    for k in 0..strands.len() {
-        if name == strands[k].name.as_slice() {
-            return Some(k as u16);
-        }
+    match child_of(node.children.as_slice(), symbol) {
+        Some(child) => child,
+        None => node,
     }
-    None
+}
+
+// The refusal of a word that names no strand.
+fn unknown(alloc: Global, bytes: &[u8], token: Token) -> RunTextFail
+    ensures { Tells result (unknown bytes.now token) }
+{
+    match List::from_slice(alloc, token_text(bytes, token)) {
+        Ok(name) => RunTextFail::Name {
+            name,
+            line: token.line,
+            col: token.col,
+        },
+        Err(_) => RunTextFail::NoMemory,
+    }
 }
 
 // The names of a strand's parameters.
@@ -206,12 +260,15 @@ fn read_values(
     tokens: &Tokens,
     protocol: &Protocol,
     nodes: &[&Node],
-) -> Result<Terms, RunError>
+) -> Result<Terms, RunTextFail>
     ensures { Gives result (values_read bytes.now tokens.now protocol.now (seen nodes.now)) }
 {
     let mut terms = List::new(alloc);
     for node in nodes {
-        terms.push(read_value(alloc, bytes, tokens, protocol, *node)?)?;
+        match read_value(alloc, bytes, tokens, protocol, *node) {
+            Ok(term) => terms.push(term)?,
+            Err(fail) => return Err(fail),
+        }
     }
     Ok(terms)
 }
@@ -222,21 +279,24 @@ fn read_value(
     tokens: &Tokens,
     protocol: &Protocol,
     node: &Node,
-) -> Result<Term, RunError>
+) -> Result<Term, RunTextFail>
     ensures { Gives result (value_read bytes.now tokens.now protocol.now node.now) }
 {
-    let Some(ground) = child_of(node.children.as_slice(), GROUND) else {
-        return Err(RunError::Later);
-    };
-    let raw = match raw_of(alloc, tokens, ground) {
-        Ok(raw) => raw,
-        Err(_) => return Err(RunError::NoMemory),
-    };
+    let raw = raw_of(alloc, tokens, child_for(GROUND, node))?;
     let none: Scope = List::new(alloc);
     match resolve(alloc, &protocol.sig, &none, bytes, &raw) {
         Ok(term) => Ok(term),
-        Err(UseFail::NoMemory) => Err(RunError::NoMemory),
-        Err(UseFail::Name { .. }) => Err(RunError::Later),
-        Err(UseFail::Sort { .. }) => Err(RunError::Later),
+        Err(fail) => Err(refusal_of(fail)),
+    }
+}
+
+// The refusal of a term's word.
+fn refusal_of(fail: UseFail) -> RunTextFail
+    ensures { result ≡ refusal_of fail }
+{
+    match fail {
+        UseFail::Name { name, line, col } => RunTextFail::Name { name, line, col },
+        UseFail::Sort { name, line, col } => RunTextFail::Sort { name, line, col },
+        UseFail::NoMemory => RunTextFail::NoMemory,
     }
 }

@@ -1,8 +1,7 @@
 use Rattle.std.proofs.Common.{◌≡◌, ◌++◌, drop}
-use Rattle.std.specs.Option.{option_map}
 use Rattle.npa_module.specs.Trees.{seen}
-use Rattle.npa_main.specs.RunTexts.{instances_read}
+use Rattle.npa_main.specs.RunTexts.{mapped, instances_read}
 use Rattle.npa_main.proofs.run_text.read_instances.Given as goal
 
 abbrev pub invariant-loop-node : goal.invariant-loop-node
-invariant-loop-node l = instances_read l.bytes l.tokens l.protocol (seen l.nodes) ≡ option_map (λ more. l.instances ++ more) (instances_read l.bytes l.tokens l.protocol (seen (drop l.node-index l.nodes)))
+invariant-loop-node l = instances_read l.bytes l.tokens l.protocol (seen l.nodes) ≡ mapped (λ more. l.instances ++ more) (instances_read l.bytes l.tokens l.protocol (seen (drop l.node-index l.nodes)))
