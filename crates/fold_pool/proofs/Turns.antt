@@ -1,5 +1,5 @@
 -- An entry that was taken is taken still, whatever children are inserted.
-use Rattle.std.proofs.Common.{◌≡◌, ℕ, length, Some, Result, Ok, Err, OnOk, OnErr, true, refl, ap, sym, ◌∙◌, subst}
+use Rattle.std.proofs.Common.{◌≡◌, ℕ, ◌+◌, List, [], ◌∷◌, ◌++◌, length, length-append, Some, Result, Ok, Err, OnOk, OnErr, true, refl, ap, sym, ◌∙◌, subst, arith}
 use Rattle.fold_core.specs.declared.event.Placed.{Placed}
 use Rattle.fold_core.specs.declared.event.Origin.{Origin}
 use Rattle.fold_core.specs.declared.event.Origin.TheVariants.{Child}
@@ -23,7 +23,7 @@ use Rattle.fold_store.specs.declared.error.StoreFail.{StoreFail}
 use Rattle.fold_store.specs.declared.error.StoreFail.TheVariants.{Full, NoMemory}
 use Rattle.fold_pool.specs.declared.turn.Turn.{Turn}
 use Rattle.fold_pool.specs.declared.turn.Turn.TheVariants.{Finished, Halted, Nothing, Spent, Stopped}
-use Rattle.fold_pool.specs.Turn.{InOrder, none_yet, then_next, Expanded, Left, NoRoomIn, Works, Turns, SameHead}
+use Rattle.fold_pool.specs.Turn.{InOrder, none_yet, then_next, Inserted, InsertsAll, Expanded, Left, NoRoomIn, Works, Turns, SameHead}
 
 -- Entry n is taken, and its item is x.
 pub record TakenItem {I : Type 0} (n : ℕ) (x : I) (c : Core I) : Type 0 where
@@ -53,14 +53,14 @@ pub is_for_inserts : {F I : Type 0} {rules : F → Rules I} {s : State F I} {n m
 is_for_inserts nothing f = f
 is_for_inserts {rules = rules} (one_more t u child p before step) f = is_for_next rules step (is_for_inserts before f)
 
-pub is_for_ordered : {F I : Type 0} {rules : F → Rules I} {s : State F I} {n m k : ℕ} {t : State F I} {w : Expansion F I} → InOrder rules n s k t → IsFor s m w → IsFor t m w
+pub is_for_ordered : {F I : Type 0} {rules : F → Rules I} {s : State F I} {n m : ℕ} {entries : List ℕ} {t : State F I} {w : Expansion F I} → InOrder rules n s entries t → IsFor s m w → IsFor t m w
 is_for_ordered none_yet f = f
-is_for_ordered {rules = rules} (then_next k t u p before step) f = is_for_next rules step (is_for_ordered before f)
+is_for_ordered {rules = rules} (then_next entries t u p before step) f = is_for_next rules step (is_for_ordered before f)
 
 -- What was done in order was done.
-pub inserts_of : {F I : Type 0} {rules : F → Rules I} {s : State F I} {n k : ℕ} {t : State F I} → InOrder rules n s k t → Inserts rules n s t
+pub inserts_of : {F I : Type 0} {rules : F → Rules I} {s : State F I} {n : ℕ} {entries : List ℕ} {t : State F I} → InOrder rules n s entries t → Inserts rules n s t
 inserts_of none_yet = nothing
-inserts_of (then_next k t u p before step) = one_more t u k p (inserts_of before) step
+inserts_of (then_next entries t u p before step) = one_more t u (length entries) p (inserts_of before) step
 
 pub inserts_on : {F I : Type 0} {rules : F → Rules I} {s t : State F I} {n : ℕ} {u : State F I} → Inserts rules n s t → Inserts rules n t u → Inserts rules n s u
 inserts_on before nothing = before
@@ -113,20 +113,38 @@ overflows rules s n own x why t at same large =
     let item : t.entry.item ≡ x = cc in
     record { entry = t.entry; stands = t.stands; taken = t.taken; expands = ap (rules s.rules).expansion item ∙ ap (λ v. (rules v).expansion x) (sym same) ∙ large }
 
-pub expanded_by : {F I X E : Type 0} (rules : F → Rules I) (s u t : State F I) (n : ℕ) (w : Expansion F I) (result : Result X E) → IsFor s n w → (rules w.rules).expansion w.item ≡ Ok w.children
-    → InOrder rules n s (length w.children) u → OnOk result (Finishes (rules u.rules) n u t) → OnOk result (Expanded rules n s t)
-expanded_by rules s u t n w (Ok x) f e i done = record {
+pub expanded_by : {F I X E : Type 0} (rules : F → Rules I) (s u t : State F I) (n : ℕ) (w : Expansion F I) (entries : List ℕ) (result : Result X E) → IsFor s n w → (rules w.rules).expansion w.item ≡ Ok w.children
+    → InsertsAll rules n w.children s entries u → OnOk result (Finishes (rules u.rules) n w.children entries u t) → OnOk result (Expanded rules n s t)
+expanded_by rules s u t n w entries (Ok x) f e i done = record {
   children = w.children;
   expanding = record { entry = f.entry; stands = f.stands; taken = f.taken; expands = ap (λ v. (rules v).expansion f.entry.item) f.rules ∙ ap (rules w.rules).expansion f.item ∙ e };
+  entries = entries;
   inserted = u;
   inserts = i;
   finishes = done;
 }
-expanded_by rules s u t n w (Err x) f e i done = _
+expanded_by rules s u t n w entries (Err x) f e i done = _
 
-pub left_by : {F I X E : Type 0} (rules : F → Rules I) (s u t : State F I) (n k : ℕ) (result : Result X E) → InOrder rules n s k u → OnErr result (Left rules n u t) → OnErr result (Left rules n s t)
-left_by rules s u t n k (Ok x) i l = _
-left_by rules s u t n k (Err x) i l = left_on (inserts_of i) l
+pub left_by : {F I X E : Type 0} (rules : F → Rules I) (s u t : State F I) (n : ℕ) (children : List I) (entries : List ℕ) (result : Result X E) → InsertsAll rules n children s entries u
+    → OnErr result (Left rules n u t) → OnErr result (Left rules n s t)
+left_by rules s u t n children entries (Ok x) i l = _
+left_by rules s u t n children entries (Err x) i l = left_on (inserts_of i.inserts) l
+
+pub ordered_none : {F I : Type 0} (rules : F → Rules I) (n : ℕ) (s : State F I) (entries : List ℕ) → entries ≡ [] → InOrder rules n s entries s
+ordered_none rules n s entries none = subst (λ w. InOrder rules n s w s) (sym none) none_yet
+
+pub longer_next : (entries more : List ℕ) (entry child : ℕ) → more ≡ entries ++ entry ∷ [] → length entries ≡ child → length more ≡ child + 1
+longer_next entries more entry child is at =
+    let many = length-append entries (entry ∷ []) in
+    let same : length more ≡ length (entries ++ entry ∷ []) = ap length is in
+    omega arith
+
+-- One more child is inserted.
+pub ordered_next : {F I : Type 0} {rules : F → Rules I} {n child entry : ℕ} {s t u : State F I} {entries more : List ℕ} → InOrder rules n s entries t → length entries ≡ child
+    → Inserted (rules t.rules) n child entry t u → more ≡ entries ++ entry ∷ [] → InOrder rules n s more u
+ordered_next {rules = rules} {n = n} {s = s} {t = t} {u = u} {entries = entries} before at i is =
+    subst (λ w. InOrder rules n s w u) (sym (is ∙ ap (λ m. entries ++ m ∷ []) i.entry_is))
+    (then_next entries t u i.placed before (subst (λ k. Next (rules t.rules) t (Insert n k i.placed) u) (sym at) i.next))
 
 pub takes_works : {F I : Type 0} (rules : F → Rules I) (s u t : State F I) (n : ℕ) (result : Result Turn StoreFail) → Next (rules s.rules) s (Take n) u → Works rules n u result t → Turns rules s result t
 takes_works rules s u t n (Ok Finished) next works = record { entry = n; taken = u; takes = next; works = works }
@@ -164,7 +182,7 @@ head_inserts nothing = head_same _
 head_inserts (one_more t u child p before step) = head_on (head_inserts before) (head_next step)
 
 head_works : {F I : Type 0} (rules : F → Rules I) (n : ℕ) (s : State F I) (answer : Result Turn StoreFail) (t : State F I) → Works rules n s answer t → SameHead s t
-head_works rules n s (Ok Finished) t w = head_on (head_inserts (inserts_of w.inserts)) (head_next w.finishes.next)
+head_works rules n s (Ok Finished) t w = head_on (head_inserts (inserts_of w.inserts.inserts)) (head_next w.finishes.next)
 head_works rules n s (Ok Halted) t w = head_next w.next
 head_works rules n s (Ok Nothing) t w = absurd w
 head_works rules n s (Ok Spent) t w = absurd w

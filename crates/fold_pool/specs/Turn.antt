@@ -1,7 +1,8 @@
 -- What one turn of a worker does, in events of the machine.
-use Rattle.std.specs.Prelude.{◌≡◌, ℕ, ◌+◌, List, length, Result, Ok, Err}
+use Rattle.std.specs.Prelude.{◌≡◌, ℕ, List, [], ◌∷◌, ◌++◌, length, Result, Ok, Err}
 use Rattle.fold_core.specs.declared.error.Large.{Large}
 use Rattle.fold_core.specs.declared.event.Placed.{Placed}
+use Rattle.fold_core.specs.declared.event.Placed.TheVariants.{Kept, Folded}
 use Rattle.fold_core.specs.declared.event.Event.TheVariants.{Take, Insert, Halt}
 use Rattle.fold_core.specs.Rules.{Rules}
 use Rattle.fold_core.specs.Machine.{Expanding}
@@ -13,24 +14,37 @@ use Rattle.fold_store.specs.Store.{State, Next, Takes, ChildOf, NoRoom, Inserts,
 use Rattle.fold_pool.specs.declared.turn.Turn.{Turn}
 use Rattle.fold_pool.specs.declared.turn.Turn.TheVariants.{Finished, Halted, Nothing, Spent, Stopped}
 
--- The store goes by the inserts of the first so many children of entry n, in order.
-pub data InOrder {F I : Type 0} (rules : F → Rules I) (n : ℕ) (s : State F I) : ℕ → State F I → Type 0 where
-  none_yet : InOrder rules n s 0 s
-  then_next : (k : ℕ) (t u : State F I) (p : Placed) → InOrder rules n s k t → Next (rules t.rules) t (Insert n k p) u → InOrder rules n s (k + 1) u
+-- The entry that an item was placed in.
+abbrev pub entry_of : Placed → ℕ
+entry_of (Kept n) = n
+entry_of (Folded n) = n
 
--- The child of this number of entry n was inserted.
-pub record Inserted {F I : Type 0} (r : Rules I) (n child : ℕ) (s t : State F I) : Type 0 where
+-- The store goes by the inserts of the first children of entry n, in order, into these entries.
+pub data InOrder {F I : Type 0} (rules : F → Rules I) (n : ℕ) (s : State F I) : List ℕ → State F I → Type 0 where
+  none_yet : InOrder rules n s [] s
+  then_next : (entries : List ℕ) (t u : State F I) (p : Placed) → InOrder rules n s entries t
+      → Next (rules t.rules) t (Insert n (length entries) p) u → InOrder rules n s (entries ++ entry_of p ∷ []) u
+
+-- The child of this number of entry n was inserted into this entry.
+pub record Inserted {F I : Type 0} (r : Rules I) (n child entry : ℕ) (s t : State F I) : Type 0 where
   pub placed : Placed
+  pub entry_is : entry ≡ entry_of placed
   pub next : Next r s (Insert n child placed) t
 
+-- Each child of entry n was inserted, in order, into these entries.
+pub record InsertsAll {F I : Type 0} (rules : F → Rules I) (n : ℕ) (children : List I) (s : State F I) (entries : List ℕ) (t : State F I) : Type 0 where
+  pub inserts : InOrder rules n s entries t
+  pub all : length entries ≡ length children
+
 -- From the store where entry n is taken: each child is inserted, in order, and then the entry is
--- finished.
+-- finished, with the entries of the inserts as hints.
 pub record Expanded {F I : Type 0} (rules : F → Rules I) (n : ℕ) (s t : State F I) : Type 0 where
   pub children : List I
   pub expanding : Expanding (rules s.rules) n children s.core
+  pub entries : List ℕ
   pub inserted : State F I
-  pub inserts : InOrder rules n s (length children) inserted
-  pub finishes : Finishes (rules inserted.rules) n inserted t
+  pub inserts : InsertsAll rules n children s entries inserted
+  pub finishes : Finishes (rules inserted.rules) n children entries inserted t
 
 -- The search is halted by entry n.
 pub record HaltedBy {F I : Type 0} (r : Rules I) (n : ℕ) (s t : State F I) : Type 0 where

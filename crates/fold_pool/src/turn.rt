@@ -3,7 +3,7 @@ ghost use Rattle.std.specs.Result.{IsErrOf};
 ghost use Rattle.fold_core.specs.declared.event.Event.TheVariants.{Insert};
 ghost use Rattle.fold_store.specs.Table.{TakenEntry};
 ghost use Rattle.fold_store.specs.Store.{Next, item_at, IsFor, Finishes, Inserts};
-ghost use Rattle.fold_pool.specs.Turn.{Expanded, InOrder, Inserted, Left, NoRoomIn, Works, Turns, SameHead};
+ghost use Rattle.fold_pool.specs.Turn.{Expanded, InsertsAll, Inserted, Left, NoRoomIn, Works, Turns, SameHead};
 
 use fold_core::{ExpandFail, Folding, NoMemory, Placed};
 use fold_store::{InsertFail, Places, Store, StoreFail, Taken, Work};
@@ -25,7 +25,7 @@ pub enum Turn {
     Stopped,
 }
 
-/// Inserts a child of the taken entry.
+/// Inserts a child of the taken entry, and says into which entry.
 fn insert<F: Folding>(
     alloc: Global,
     store: &mut Store<F>,
@@ -35,7 +35,7 @@ fn insert<F: Folding>(
 ) -> Result<u32, StoreFail>
     requires is_for { IsFor store.old id work.now }
     requires within { child < length work.now.children }
-    ensures ok { OnOk result (Inserted (F.rules store.old.rules) id child store.old store.new) }
+    ensures ok { IfOk result (λ number. Inserted (F.rules store.old.rules) id child number store.old store.new) }
     ensures is_for { IsFor store.new id work.now }
     ensures full { IsErrOf result StoreFail.Full → NoRoomIn (F.rules store.new.rules) id store.new }
     ensures err { OnErr result (store.new ≡ store.old) }
@@ -49,7 +49,7 @@ fn insert<F: Folding>(
     }
 }
 
-/// Inserts each child of the taken entry, and says where they are.
+/// Inserts each child of the taken entry, and says into which entries.
 fn insert_all<F: Folding>(
     alloc: Global,
     store: &mut Store<F>,
@@ -57,17 +57,17 @@ fn insert_all<F: Folding>(
     work: &Work<'_, F>,
 ) -> Result<Places, StoreFail>
     requires { IsFor store.old id work.now }
-    ensures ok { OnOk result (InOrder F.rules id store.old (length work.now.children) store.new) }
+    ensures ok { IfOk result (λ entries. InsertsAll F.rules id work.now.children store.old entries store.new) }
     ensures is_for { IsFor store.new id work.now }
     ensures left { OnErr result (Inserts F.rules id store.old store.new) }
     ensures full { IsErrOf result StoreFail.Full → NoRoomIn (F.rules store.new.rules) id store.new }
 {
-    let mut places = List::new(alloc);
+    let mut entries = List::new(alloc);
     for child in 0..work.children() {
         let number = insert(alloc, store, id, work, child)?;
-        places.push(number)?;
+        entries.push(number)?;
     }
-    Ok(places)
+    Ok(entries)
 }
 
 /// Finishes the taken entry.
@@ -79,7 +79,7 @@ fn finish<F: Folding>(
     hints: &Places,
 ) -> Result<(), StoreFail>
     requires { IsFor store.old id work.now }
-    ensures ok { OnOk result (Finishes (F.rules store.old.rules) id store.old store.new) }
+    ensures ok { OnOk result (Finishes (F.rules store.old.rules) id work.now.children hints.now store.old store.new) }
     ensures left { OnErr result (Left F.rules id store.old store.new) }
     ensures full { IsErrOf result StoreFail.Full → NoRoomIn (F.rules store.new.rules) id store.new }
 {
@@ -105,11 +105,11 @@ fn work_off<F: Folding>(
     ensures full { IsErrOf result StoreFail.Full → NoRoomIn (F.rules store.new.rules) id store.new }
 {
     work.children();
-    let places = match insert_all(alloc, store, id, work) {
-        Ok(places) => places,
+    let entries = match insert_all(alloc, store, id, work) {
+        Ok(entries) => entries,
         Err(fail) => return Err(fail),
     };
-    finish(alloc, store, id, work, &places)
+    finish(alloc, store, id, work, &entries)
 }
 
 /// The item of the taken entry.

@@ -1,5 +1,5 @@
 -- A finish: the inserts that it made on the way become one event.
-use Rattle.std.proofs.Common.{◌≡◌, ℕ, zero, suc, ◌+◌, ◌<◌, ◌≤◌, true, cond, List, [], ◌∷◌, ◌++◌, length, map, set, take, Result, Ok, Err, IfOk, OnErr, refl, ap, sym, ◌∙◌, subst, arith, length-append, length-set}
+use Rattle.std.proofs.Common.{◌≡◌, ℕ, zero, suc, ◌+◌, ◌<◌, ◌≤◌, true, cond, List, [], ◌∷◌, ◌++◌, length, map, set, take, Option, None, slice_get, Result, Ok, Err, IfOk, OnErr, refl, ap, sym, ◌∙◌, subst, arith, length-append, length-set}
 use Rattle.std.proofs.lemmas.List.{length-map, take-append-le}
 use Rattle.fold_core.specs.declared.event.Placed.{Placed}
 use Rattle.fold_core.specs.declared.event.Placed.TheVariants.{Folded}
@@ -10,29 +10,20 @@ use Rattle.fold_core.specs.declared.event.Status.TheVariants.{Waiting, Taken, Fi
 use Rattle.fold_core.specs.declared.event.Event.{Event}
 use Rattle.fold_core.specs.declared.event.Event.TheVariants.{Insert, Finish}
 use Rattle.fold_core.specs.Rules.{Rules, Lawful}
-use Rattle.fold_core.specs.Machine.{Entry, Core, Stands, is_taken, LiveCover, kept, placed, place_of, Accepts, Settles, settled, settles, Expanding, let_go, Step, finish, After, more}
+use Rattle.fold_core.specs.Machine.{Entry, Core, Stands, is_taken, kept, placed, place_of, Settles, Expanding, let_go, Step, finish, After, more}
 use Rattle.fold_core.proofs.Places.{stands_within, stands_map}
 use Rattle.fold_core.proofs.Keeping.{Outcome, was_retired, stays, goes, outcome, kept_old}
-use Rattle.fold_core.proofs.Stepping.{sound_after, accepts_place, placed_keeps}
+use Rattle.fold_core.proofs.Stepping.{sound_after, placed_keeps}
 use Rattle.fold_core.proofs.Counting.{weight, taken_set}
 use Rattle.fold_store.specs.Table.{TakenEntry, clip_status, clip_entry}
 use Rattle.fold_store.specs.declared.error.StoreFail.{StoreFail}
 use Rattle.fold_store.specs.Work.{Expansion}
+use Rattle.fold_store.specs.Hints.{HintSays, Hinted, guided, unguided, HintsSettle, all_placed}
 use Rattle.fold_store.specs.Store.{State, Next, owed_by, Sound, ChildOf, IsFor, Inserts, nothing, one_more, Settled, folded, inserted, clipped, Closing, closed, Finishes}
-use Rattle.fold_store.proofs.Clipping.{clip_taken, clip_owed, owed_clip, clipped_placed, accepts_clip, clip_none}
+use Rattle.fold_store.proofs.Clipping.{clip_taken, clip_owed, owed_clip, clipped_placed, clip_none}
+use Rattle.fold_store.proofs.Hinting.{hints_settle, hints_more, hinted_clip}
 use Rattle.fold_store.proofs.Events.{in_budget, owed_set}
-
--- One more child is placed.
-settles_more : {I : Type 0} {r : Rules I} {tick parent k : ℕ} {xs : List I} {ps : List Placed} {c d : Core I} (x : I) (p : Placed) (j : ℕ)
-    → Settles r tick parent k xs ps c d → j ≡ k + length xs → Accepts r x p d
-    → Settles r tick parent k (xs ++ x ∷ []) (ps ++ p ∷ []) c (placed r tick x (Child parent j) p d)
-settles_more {r = r} {tick = tick} {parent = parent} x p j (settled k c) at a =
-    let is : j ≡ k = omega arith in
-    subst (λ m. Settles r tick parent k (x ∷ []) (p ∷ []) c (placed r tick x (Child parent m) p c)) (sym is)
-    (settles k x [] p [] c (placed r tick x (Child parent k) p c) a (settled (k + 1) (placed r tick x (Child parent k) p c)))
-settles_more {r = r} {tick = tick} {parent = parent} x p j (settles k y ys q qs c d b rest) at a =
-    let move : j ≡ k + 1 + length ys = omega arith in
-    settles k y (ys ++ x ∷ []) q (qs ++ p ∷ []) c (placed r tick x (Child parent j) p d) b (settles_more x p j rest move a)
+use Rattle.fold_store.proofs.Numbers.{take_stands}
 
 expanding_kept : {I : Type 0} (r : Rules I) (tick n : ℕ) (xs : List I) (x : I) (origin : Origin) (c : Core I) → Expanding r n xs c → Expanding r n xs (kept r tick x origin c)
 expanding_kept r tick n xs x origin c old = by (outcome r x (length c.entries) tick old.entry) (kept_old r tick x origin c old.stands)
@@ -45,15 +36,16 @@ expanding_kept r tick n xs x origin c old = by (outcome r x (length c.entries) t
 pub expanding_placed : {I : Type 0} (r : Rules I) (tick n : ℕ) (xs : List I) (x : I) (origin : Origin) (p : Placed) (c : Core I) → Expanding r n xs c → Expanding r n xs (placed r tick x origin p c)
 expanding_placed r tick n xs x origin p c e = placed_keeps r tick (Expanding r n xs) (λ y o w v. expanding_kept r tick n xs y o w v) x origin p c e
 
--- How far a finish of entry n has come since the store was `old`: these children are placed.
-pub record Finishing {F I : Type 0} (rules : F → Rules I) (old now : State F I) (n : ℕ) (children xs : List I) (ps : List Placed) : Type 0 where
+-- How far a finish of entry n has come since the store was `old`: these children are placed, by
+-- these hints.
+pub record Finishing {F I : Type 0} (rules : F → Rules I) (old now : State F I) (n : ℕ) (hints : List ℕ) (children xs : List I) (ps : List Placed) : Type 0 where
   pub inserts : Inserts rules n old now
   pub same : now ≡ record old { history = now.history; core = now.core }
   pub history : take (length old.history) now.history ≡ old.history
   pub longer : length old.history ≤ length now.history
   pub began : Expanding (rules old.rules) n children old.core
   pub expanding : Expanding (rules old.rules) n children now.core
-  pub settles : Settles (rules old.rules) (length old.history) n 0 xs ps old.core (clipped (length old.history) now.core)
+  pub by_hints : HintsSettle (rules old.rules) (length old.history) n hints 0 xs ps old.core (clipped (length old.history) now.core)
 
 expanding_for : {F I : Type 0} (rules : F → Rules I) (s : State F I) (n : ℕ) (w : Expansion F I) → IsFor s n w → (rules w.rules).expansion w.item ≡ Ok w.children → Expanding (rules s.rules) n w.children s.core
 expanding_for rules s n w f e = record {
@@ -67,9 +59,9 @@ pub take_all : {X : Type 0} (xs : List X) → take (length xs) xs ≡ xs
 take_all [] = refl
 take_all (x ∷ xs) = ap (λ ys. x ∷ ys) (take_all xs)
 
-pub finishing_start : {F I : Type 0} (rules : F → Rules I) (s : State F I) (n : ℕ) (w : Expansion F I) (xs : List I) (ps : List Placed) → Lawful (rules s.rules) → After (rules s.rules) s.roots s.budget s.history s.core
-    → IsFor s n w → (rules w.rules).expansion w.item ≡ Ok w.children → xs ≡ [] → ps ≡ [] → Finishing rules s s n w.children xs ps
-finishing_start rules s n w xs ps law after f e no_child no_place =
+pub finishing_start : {F I : Type 0} (rules : F → Rules I) (s : State F I) (n : ℕ) (hints : List ℕ) (w : Expansion F I) (xs : List I) (ps : List Placed) → Lawful (rules s.rules) → After (rules s.rules) s.roots s.budget s.history s.core
+    → IsFor s n w → (rules w.rules).expansion w.item ≡ Ok w.children → xs ≡ [] → ps ≡ [] → Finishing rules s s n hints w.children xs ps
+finishing_start rules s n hints w xs ps law after f e no_child no_place =
     let ticks = (sound_after law after).pointers in
     let same : clipped (length s.history) s.core ≡ s.core =
     ap (λ es. record s.core { entries = es }) (clip_none (length s.history) s.core.entries (λ m d to tick taken t q. (ticks m d to tick taken t q).0)) in
@@ -80,48 +72,57 @@ finishing_start rules s n w xs ps law after f e no_child no_place =
       longer = omega arith;
       began = expanding_for rules s n w f e;
       expanding = expanding_for rules s n w f e;
-      settles = subst (λ v. Settles (rules s.rules) (length s.history) n 0 v ps s.core (clipped (length s.history) s.core)) (sym no_child)
-          (subst (λ v. Settles (rules s.rules) (length s.history) n 0 [] v s.core (clipped (length s.history) s.core)) (sym no_place)
-          (subst (λ v. Settles (rules s.rules) (length s.history) n 0 [] [] s.core v) (sym same) (settled 0 s.core)));
+      by_hints = subst (λ v. HintsSettle (rules s.rules) (length s.history) n hints 0 v ps s.core (clipped (length s.history) s.core)) (sym no_child)
+          (subst (λ v. HintsSettle (rules s.rules) (length s.history) n hints 0 [] v s.core (clipped (length s.history) s.core)) (sym no_place)
+          (subst (λ v. HintsSettle (rules s.rules) (length s.history) n hints 0 [] [] s.core v) (sym same) (all_placed 0 s.core)));
     }
 
-pub finishing_child : {F I : Type 0} {rules : F → Rules I} {old now : State F I} {n : ℕ} {children xs : List I} {ps : List Placed} (k : ℕ) (x : I)
-    → Finishing rules old now n children xs ps → Stands children k x → ChildOf (rules now.rules) now.core n k x
+pub finishing_child : {F I : Type 0} {rules : F → Rules I} {old now : State F I} {n : ℕ} {hints : List ℕ} {children xs : List I} {ps : List Placed} (k : ℕ) (x : I)
+    → Finishing rules old now n hints children xs ps → Stands children k x → ChildOf (rules now.rules) now.core n k x
 finishing_child {rules = rules} {now = now} {n = n} {children = children} k x f s =
     let r = ap (λ (v : State _ _). rules v.rules) f.same in
     record { children = children; expanding = subst (λ v. Expanding v n children now.core) (sym r) f.expanding; stands = s }
 
-finishing_folded : {F I : Type 0} {rules : F → Rules I} {old now : State F I} {n : ℕ} {children xs : List I} {ps : List Placed} (k : ℕ) (x : I) (into : ℕ)
-    → Finishing rules old now n children xs ps → k ≡ length xs → LiveCover (rules now.rules) x into now.core.entries
-    → Finishing rules old now n children (xs ++ x ∷ []) (ps ++ Folded into ∷ [])
-finishing_folded {rules = rules} {old = old} {now = now} k x into f at cover =
-    let cover_old = subst (λ v. LiveCover v x into now.core.entries) (ap (λ (v : State _ _). rules v.rules) f.same) cover in
-    record {
-      inserts = f.inserts;
-      same = f.same;
-      history = f.history;
-      longer = f.longer;
-      began = f.began;
-      expanding = f.expanding;
-      settles = settles_more x (Folded into) k f.settles (omega arith) (accepts_clip (rules old.rules) (length old.history) x (Folded into) now.core cover_old);
-    }
+hinted_by : {F I : Type 0} {r : Rules I} {n k : ℕ} {x : I} {hint : Option ℕ} {s t : State F I} {p : Placed} → Settled r n k x hint s p t → Hinted r x hint s.core p
+hinted_by (folded into says) = guided into says
+hinted_by (inserted p t none is step after) = unguided p none is
 
-finishing_inserted : {F I : Type 0} {rules : F → Rules I} {old now : State F I} {n : ℕ} {children xs : List I} {ps : List Placed} (k : ℕ) (x : I) (p : Placed) (next : State F I)
-    → Finishing rules old now n children xs ps → k ≡ length xs → p ≡ place_of (rules now.rules) x now.core → Next (rules now.rules) now (Insert n k p) next
-    → next.core ≡ placed (rules now.rules) (length now.history) x (Child n k) p now.core
-    → Finishing rules old next n children (xs ++ x ∷ []) (ps ++ p ∷ [])
-finishing_inserted {rules = rules} {old = old} {now = now} {n = n} {children = children} {xs = xs} {ps = ps} k x p next f at is step after =
+-- How a child was placed, by the rules that the store began with.
+hinted_of : {F I : Type 0} {rules : F → Rules I} {old now next : State F I} {n : ℕ} {hints : List ℕ} {children xs : List I} {ps : List Placed} {k : ℕ} {x : I} {hint : Option ℕ} {p : Placed}
+    → Settled (rules now.rules) n k x hint now p next → Finishing rules old now n hints children xs ps → hint ≡ slice_get hints k
+    → Hinted (rules old.rules) x (slice_get hints k) (clipped (length old.history) now.core) p
+hinted_of {rules = rules} {old = old} {now = now} {hints = hints} {k = k} {x = x} {p = p} s f given =
+    let same : rules now.rules ≡ rules old.rules = ap (λ (v : State _ _). rules v.rules) f.same in
+    hinted_clip (length old.history) (subst (λ r. Hinted r x (slice_get hints k) now.core p) same (subst (λ o. Hinted (rules now.rules) x o now.core p) given (hinted_by s)))
+
+finishing_folded : {F I : Type 0} {rules : F → Rules I} {old now : State F I} {n : ℕ} {hints : List ℕ} {children xs : List I} {ps : List Placed} (k : ℕ) (x : I) (into : ℕ)
+    → Finishing rules old now n hints children xs ps → k ≡ length xs → Hinted (rules old.rules) x (slice_get hints k) (clipped (length old.history) now.core) (Folded into)
+    → Finishing rules old now n hints children (xs ++ x ∷ []) (ps ++ Folded into ∷ [])
+finishing_folded k x into f at h = record {
+  inserts = f.inserts;
+  same = f.same;
+  history = f.history;
+  longer = f.longer;
+  began = f.began;
+  expanding = f.expanding;
+  by_hints = hints_more x (Folded into) k f.by_hints (omega arith) h;
+}
+
+finishing_inserted : {F I : Type 0} {rules : F → Rules I} {old now : State F I} {n : ℕ} {hints : List ℕ} {children xs : List I} {ps : List Placed} (k : ℕ) (x : I) (p : Placed) (next : State F I)
+    → Finishing rules old now n hints children xs ps → k ≡ length xs → Hinted (rules old.rules) x (slice_get hints k) (clipped (length old.history) now.core) p
+    → Next (rules now.rules) now (Insert n k p) next → next.core ≡ placed (rules now.rules) (length now.history) x (Child n k) p now.core
+    → Finishing rules old next n hints children (xs ++ x ∷ []) (ps ++ p ∷ [])
+finishing_inserted {rules = rules} {old = old} {now = now} {n = n} {hints = hints} {children = children} {xs = xs} {ps = ps} k x p next f at h step after =
     let r = rules old.rules in
     let start = length old.history in
     let event = Insert n k p in
     let same_rules : rules now.rules ≡ r = ap (λ (v : State _ _). rules v.rules) f.same in
     let core : next.core ≡ placed r (length now.history) x (Child n k) p now.core = after ∙ ap (λ v. placed v (length now.history) x (Child n k) p now.core) same_rules in
-    let place : p ≡ place_of r x now.core = is ∙ ap (λ v. place_of v x now.core) same_rules in
     let events : next.history ≡ now.history ++ event ∷ [] = ap (λ (v : State _ _). v.history) step.same in
     let many = length-append now.history (event ∷ []) in
     let total : length next.history ≡ length (now.history ++ event ∷ []) = ap length events in
     let longer = f.longer in
-    let done = settles_more x p k f.settles (omega arith) (accepts_clip r start x p now.core (accepts_place r x p now.core place)) in
+    let done = hints_more x p k f.by_hints (omega arith) h in
     let clip : clipped start next.core ≡ placed r start x (Child n k) p (clipped start now.core) =
     ap (clipped start) core ∙ clipped_placed r (length now.history) start x (Child n k) p now.core longer in
     record {
@@ -131,17 +132,18 @@ finishing_inserted {rules = rules} {old = old} {now = now} {n = n} {children = c
       longer = omega arith;
       began = f.began;
       expanding = subst (λ v. Expanding r n children v) (sym core) (expanding_placed r (length now.history) n children x (Child n k) p now.core f.expanding);
-      settles = subst (λ v. Settles r start n 0 (xs ++ x ∷ []) (ps ++ p ∷ []) old.core v) (sym clip) done;
+      by_hints = subst (λ v. HintsSettle r start n hints 0 (xs ++ x ∷ []) (ps ++ p ∷ []) old.core v) (sym clip) done;
     }
 
-pub finishing_next : {F I : Type 0} {rules : F → Rules I} {old now next : State F I} {n : ℕ} {children xs : List I} {ps : List Placed} {k : ℕ} {x : I} {p : Placed}
-    → Settled (rules now.rules) n k x now p next → Finishing rules old now n children xs ps → k ≡ length xs → Finishing rules old next n children (xs ++ x ∷ []) (ps ++ p ∷ [])
-finishing_next {k = k} {x = x} (folded into cover) f at = finishing_folded k x into f at cover
-finishing_next {k = k} {x = x} (inserted p next is step after) f at = finishing_inserted k x p next f at is step after
+finishing_next : {F I : Type 0} {rules : F → Rules I} {old now next : State F I} {n : ℕ} {hints : List ℕ} {children xs : List I} {ps : List Placed} {k : ℕ} {x : I} {hint : Option ℕ} {p : Placed}
+    → Settled (rules now.rules) n k x hint now p next → Finishing rules old now n hints children xs ps → k ≡ length xs
+    → Hinted (rules old.rules) x (slice_get hints k) (clipped (length old.history) now.core) p → Finishing rules old next n hints children (xs ++ x ∷ []) (ps ++ p ∷ [])
+finishing_next {k = k} {x = x} (folded into says) f at h = finishing_folded k x into f at h
+finishing_next {k = k} {x = x} (inserted p next none is step after) f at h = finishing_inserted k x p next f at h step after
 
 -- All children are placed.
-pub finishing_closing : {F I : Type 0} {rules : F → Rules I} {old now : State F I} {n start : ℕ} {children xs : List I} {ps : List Placed}
-    → Finishing rules old now n children xs ps → xs ≡ children → start ≡ length old.history → After (rules old.rules) old.roots old.budget old.history old.core → Closing (rules now.rules) now start n ps
+pub finishing_closing : {F I : Type 0} {rules : F → Rules I} {old now : State F I} {n start : ℕ} {hints : List ℕ} {children xs : List I} {ps : List Placed}
+    → Finishing rules old now n hints children xs ps → xs ≡ children → start ≡ length old.history → After (rules old.rules) old.roots old.budget old.history old.core → Closing (rules now.rules) now start n ps
 finishing_closing {rules = rules} {old = old} {now = now} {n = n} {start = start} {children = children} {ps = ps} f whole at after =
     let r = rules old.rules in
     let v : State _ _ = record old { history = now.history; core = now.core } in
@@ -151,15 +153,15 @@ finishing_closing {rules = rules} {old = old} {now = now} {n = n} {start = start
       start_is = ap length f.history;
       children = children;
       expanding = f.began;
-      settles = subst (λ w. Settles r (length old.history) n 0 w ps old.core (clipped (length old.history) now.core)) whole f.settles;
+      settles = subst (λ w. Settles r (length old.history) n 0 w ps old.core (clipped (length old.history) now.core)) whole (hints_settle f.by_hints);
       taken = record { entry = f.expanding.entry; stands = f.expanding.stands; taken = f.expanding.taken };
     } in
     subst (λ (w : State _ _). Closing (rules w.rules) w start n ps) (sym f.same) (subst (λ k. Closing r v k n ps) (sym at) closing)
 
-pub finishing_done : {F I : Type 0} {rules : F → Rules I} {old now new : State F I} {n start : ℕ} {children xs : List I} {ps : List Placed}
-    → Finishing rules old now n children xs ps → xs ≡ children → start ≡ length old.history → ((e : Entry I) → Stands now.core.entries n e → new ≡ closed now start n ps e)
-    → Finishes (rules old.rules) n old new
-finishing_done {rules = rules} {old = old} {now = now} {new = new} {n = n} {start = start} {children = children} {ps = ps} f whole at is =
+pub finishing_done : {F I : Type 0} {rules : F → Rules I} {old now new : State F I} {n start : ℕ} {hints : List ℕ} {children xs : List I} {ps : List Placed}
+    → Finishing rules old now n hints children xs ps → xs ≡ children → start ≡ length old.history → ((e : Entry I) → Stands now.core.entries n e → new ≡ closed now start n ps e)
+    → Finishes (rules old.rules) n children hints old new
+finishing_done {rules = rules} {old = old} {now = now} {new = new} {n = n} {start = start} {hints = hints} {children = children} {ps = ps} f whole at is =
     let r = rules old.rules in
     let begin = length old.history in
     let e = f.expanding.entry in
@@ -167,9 +169,9 @@ finishing_done {rules = rules} {old = old} {now = now} {new = new} {n = n} {star
     let turned : Entry _ = record e { status = let_go (clip_status begin e.status) } in
     let core : Core _ = record now.core { entries = set (map (clip_entry begin) now.core.entries) n turned; finished = now.core.finished + 1 } in
     let core_is : new.core ≡ core = ap (λ (v : State _ _). v.core) made in
-    let settles = subst (λ w. Settles r begin n 0 w ps old.core (clipped begin now.core)) whole f.settles in
+    let by_hints = subst (λ w. HintsSettle r begin n hints 0 w ps old.core (clipped begin now.core)) whole f.by_hints in
     let step : Step r old.roots old.budget old.history old.core (Finish n ps) core =
-    finish n ps children (clipped begin now.core) (clip_entry begin e) f.began settles (stands_map (clip_entry begin) f.expanding.stands) in
+    finish n ps children (clipped begin now.core) (clip_entry begin e) f.began (hints_settle by_hints) (stands_map (clip_entry begin) f.expanding.stands) in
     record {
       places = ps;
       next = record {
@@ -178,6 +180,8 @@ finishing_done {rules = rules} {old = old} {now = now} {new = new} {n = n} {star
             ∙ ap (λ h. record old { history = h ++ Finish n ps ∷ []; core = core }) f.history
             ∙ ap (λ c. record old { history = old.history ++ Finish n ps ∷ []; core = c }) (sym core_is);
       };
+      settled = clipped begin now.core;
+      by_hints = by_hints;
     }
 
 let_go_owes : (s : Status) → owed_by (let_go s) ≡ 0
@@ -251,24 +255,20 @@ closed_is {s = s} start n places {events = events} {es = es} {fs = fs} e here ma
     ∙ ap (λ w. record s { history = take start s.history ++ Finish n places ∷ []; core = record s.core { entries = w; finished = s.core.finished + 1 } }) set_is
     ∙ ap (λ (v : State _ _). closed v start n places e) here
 
-pub settle_by : {F I : Type 0} (r : Rules I) (n k : ℕ) (x : I) (s t : State F I) (result : Result Placed StoreFail)
+pub settle_by : {F I : Type 0} (r : Rules I) (n k : ℕ) (x : I) (hint : Option ℕ) (s t : State F I) (result : Result Placed StoreFail) → HintSays r x hint s.core.entries None
     → IfOk result (λ p. Next r s (Insert n k p) t) → IfOk result (λ p. (p ≡ place_of r x s.core) × (t.core ≡ placed r (length s.history) x (Child n k) p s.core))
-    → IfOk result (λ p. Settled r n k x s p t)
-settle_by r n k x s t (Ok p) step made = inserted p t made.0 step made.1
-settle_by r n k x s t (Err e) step made = _
+    → IfOk result (λ p. Settled r n k x hint s p t)
+settle_by r n k x hint s t (Ok p) none step made = inserted p t none made.0 step made.1
+settle_by r n k x hint s t (Err e) none step made = _
 
 pub always_err : {X E : Type 0} (result : Result X E) {P : Type 0} → P → OnErr result P
 always_err (Ok x) p = _
 always_err (Err e) p = p
 
-pub inserts_settled : {F I : Type 0} (rules : F → Rules I) {n k : ℕ} {x : I} {old now next : State F I} {p : Placed} → Settled (rules now.rules) n k x now p next → Inserts rules n old now → Inserts rules n old next
-inserts_settled rules (folded into cover) before = before
-inserts_settled rules {k = k} {now = now} (inserted p next is step after) before = one_more now next k p before step
-
-pub take_stands : {X : Type 0} (xs : List X) (k : ℕ) (x : X) → Stands xs k x → take (suc k) xs ≡ take k xs ++ x ∷ []
-take_stands [] k x s = absurd (let q = s.is in cc)
-take_stands (y ∷ xs) zero x s = let q = s.is in let same : y ≡ x = cc in ap (λ w. w ∷ []) same
-take_stands (y ∷ xs) (suc k) x s = ap (λ w. y ∷ w) (take_stands xs k x (record { is = s.is }))
+pub inserts_settled : {F I : Type 0} (rules : F → Rules I) {n k : ℕ} {x : I} {hint : Option ℕ} {old now next : State F I} {p : Placed} → Settled (rules now.rules) n k x hint now p next → Inserts rules n old now
+    → Inserts rules n old next
+inserts_settled rules (folded into says) before = before
+inserts_settled rules {k = k} {now = now} (inserted p next none is step after) before = one_more now next k p before step
 
 pub take_whole : {X : Type 0} (xs : List X) (k : ℕ) → length xs ≤ k → take k xs ≡ xs
 take_whole [] zero h = refl
@@ -281,12 +281,12 @@ length_taken [] k h = absurd (omega arith)
 length_taken (x ∷ xs) zero h = refl
 length_taken (x ∷ xs) (suc k) h = ap suc (length_taken xs k (omega arith))
 
-pub finishing_taken : {F I : Type 0} {rules : F → Rules I} {old now next : State F I} {n : ℕ} {children : List I} {ps qs : List Placed} {k : ℕ} {x : I} {p : Placed}
-    → Settled (rules now.rules) n k x now p next → Finishing rules old now n children (take k children) ps → Stands children k x → qs ≡ ps ++ p ∷ []
-    → Finishing rules old next n children (take (k + 1) children) qs
-finishing_taken {rules = rules} {old = old} {next = next} {n = n} {children = children} {ps = ps} {qs = qs} {k = k} {x = x} {p = p} s f at pushed =
+pub finishing_taken : {F I : Type 0} {rules : F → Rules I} {old now next : State F I} {n : ℕ} {hints : List ℕ} {children : List I} {ps qs : List Placed} {k : ℕ} {x : I} {hint : Option ℕ} {p : Placed}
+    → Settled (rules now.rules) n k x hint now p next → Finishing rules old now n hints children (take k children) ps → Stands children k x → hint ≡ slice_get hints k → qs ≡ ps ++ p ∷ []
+    → Finishing rules old next n hints children (take (k + 1) children) qs
+finishing_taken {rules = rules} {old = old} {next = next} {n = n} {hints = hints} {children = children} {ps = ps} {qs = qs} {k = k} {x = x} {p = p} s f at given pushed =
     let within = stands_within at in
     let suc_is : suc k ≡ k + 1 = omega arith in
     let took : take (k + 1) children ≡ take k children ++ x ∷ [] = ap (λ m. take m children) (sym suc_is) ∙ take_stands children k x at in
-    subst (λ w. Finishing rules old next n children w qs) (sym took)
-    (subst (λ w. Finishing rules old next n children (take k children ++ x ∷ []) w) (sym pushed) (finishing_next s f (length_taken children k within)))
+    subst (λ w. Finishing rules old next n hints children w qs) (sym took)
+    (subst (λ w. Finishing rules old next n hints children (take k children ++ x ∷ []) w) (sym pushed) (finishing_next s f (length_taken children k within) (hinted_of s f given)))

@@ -140,7 +140,7 @@ indexed_put_back es live first taken i = record {
     free (Retired to tick taken) = refl
 
 -- Where the live entries are split by a test, the covered ones are retired.
-goes : {I : Type 0} → (Entry I → Bool) → ℕ → ℕ → Entry I → Entry I
+unfoldable pub goes : {I : Type 0} → (Entry I → Bool) → ℕ → ℕ → Entry I → Entry I
 goes test to tick e = cond (is_live e.status && test e) (retired_by to tick e) e
 
 goes_lives : {I : Type 0} (test : Entry I → Bool) (to tick : ℕ) (e : Entry I) → is_live (goes test to tick e).status ≡ (is_live e.status && not (test e))
@@ -161,7 +161,7 @@ unfolding goes
 goes_waits test to tick e none =
     elim (is_live e.status && test e) as (λ b. is_waiting (cond b (retired_by to tick e) e).status ≡ false) [ true ↦ refl | false ↦ none ]
 
-goes_all : {I : Type 0} (to tick : ℕ) (covered others : List ℕ) (x : I) (origin : Origin) (es : List (Entry I)) (s : SplitsLive covered others es)
+pub goes_all : {I : Type 0} (to tick : ℕ) (covered others : List ℕ) (x : I) (origin : Origin) (es : List (Entry I)) (s : SplitsLive covered others es)
     → with_kept to tick covered x origin es ≡ map (goes s.test to tick) es ++ record { item = x; origin = origin; status = Waiting } ∷ []
 unfolding goes
 goes_all to tick covered others x origin es s =
@@ -236,3 +236,13 @@ keeps_by r x es seen live covered to tick origin same is c =
 pub on_ok : {X E : Type 0} (result : Result X E) {A B : Type 0} → (A → B) → OnOk result A → OnOk result B
 on_ok (Ok x) f a = f a
 on_ok (Err e) f a = _
+
+pub indexed_empty : {I : Type 0} {es : List (Entry I)} {live : List ℕ} → es ≡ [] → live ≡ [] → Indexed es live 0 0
+indexed_empty {es = es} {live = live} none no_live =
+    subst (λ w. Indexed w live 0 0) (sym none) (record {
+      few = omega arith;
+      live_is = no_live;
+      none_waits = record { none = λ m d h s. absurd (omega arith) };
+      first_within = omega arith;
+      taken_is = refl;
+    })

@@ -1,7 +1,12 @@
 pub mod Numbers
+pub mod Trees
+pub mod Logging
 pub mod Indexing
 pub mod Walks
+pub mod Joining
+pub mod Retiring
 pub mod Events
 pub mod Clipping
+pub mod Hinting
 pub mod Finishing
 pub mod Opening

@@ -167,3 +167,39 @@ numbers_set p n (d ∷ es) zero e f s same =
     ap (λ b. cond b (n ∷ numbers_where p (n + 1) es) (numbers_where p (n + 1) es)) (same ∙ ap p (sym here))
 numbers_set p n (d ∷ es) (suc k) e f s same =
     ap (λ ns. cond (p d) (n ∷ ns) ns) (numbers_set p (n + 1) es k e f (record { is = s.is }) same)
+
+pub take_stands : {X : Type 0} (xs : List X) (k : ℕ) (x : X) → Stands xs k x → take (suc k) xs ≡ take k xs ++ x ∷ []
+take_stands [] k x s = absurd (let q = s.is in cc)
+take_stands (y ∷ xs) zero x s = let q = s.is in let same : y ≡ x = cc in ap (λ w. w ∷ []) same
+take_stands (y ∷ xs) (suc k) x s = ap (λ w. y ∷ w) (take_stands xs k x (record { is = s.is }))
+
+-- The list whose elements are those of another, turned.
+pub map_by : {X : Type 0} (f : X → X) (xs ys : List X) → length ys ≡ length xs → ((n : ℕ) (x : X) → Stands xs n x → Stands ys n (f x)) → ys ≡ map f xs
+map_by f [] [] many at = refl
+map_by f [] (y ∷ ys) many at = absurd (omega arith)
+map_by f (x ∷ xs) [] many at = absurd (omega arith)
+map_by f (x ∷ xs) (y ∷ ys) many at =
+    let first = at 0 x (record { is = refl }) in
+    let is = first.is in
+    let head : y ≡ f x = cc in
+    ap (λ w. w ∷ ys) head ∙ ap (λ ws. f x ∷ ws) (map_by f xs ys (omega arith) (λ n z s. (let there = at (suc n) z (record { is = s.is }) in record { is = there.is })))
+
+-- The number of an entry that passes is in the list.
+pub numbers_has : {I : Type 0} (p : Entry I → Bool) (n : ℕ) (es : List (Entry I)) (j : ℕ) (e : Entry I) → Stands es j e → p e ≡ true → (k : ℕ) × Stands (numbers_where p n es) k (n + j)
+numbers_has p n [] j e s passed = absurd (let q = s.is in cc)
+numbers_has p n (d ∷ es) zero e s passed =
+    let is = s.is in
+    let here : d ≡ e = cc in
+    let hit : p d ≡ true = ap p here ∙ passed in
+    let at : n ≡ n + 0 = omega arith in
+    let more = numbers_where p (n + 1) es in
+    (0, subst (λ b. Stands (cond b (n ∷ more) more) 0 (n + 0)) (sym hit) (record { is = ap (λ m. Some m) at }))
+numbers_has p n (d ∷ es) (suc j) e s passed =
+    let more = numbers_where p (n + 1) es in
+    let rest = numbers_has p (n + 1) es j e (record { is = s.is }) passed in
+    let at : n + 1 + j ≡ n + suc j = omega arith in
+    let there : Stands more rest.0 (n + suc j) = subst (λ m. Stands more rest.0 m) at rest.1 in
+    elim (p d) as (λ b. (k : ℕ) × Stands (cond b (n ∷ more) more) k (n + suc j)) [
+      | true ↦ (suc rest.0, record { is = there.is })
+      | false ↦ (rest.0, there)
+    ]

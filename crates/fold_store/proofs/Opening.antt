@@ -120,7 +120,7 @@ roots_all {roots = roots} {history = history} a o =
     let whole : roots_placed history ≡ roots_placed (o.begins ++ o.rest) = ap roots_placed o.is in
     omega arith
 
-pub opens_finish : {F I X E : Type 0} (r : Rules I) (rules : F → Rules I) (n : ℕ) (s t : State F I) (result : Result X E) → OnOk result (Finishes r n s t) → OnErr result (Inserts rules n s t)
+pub opens_finish : {F I X E : Type 0} (r : Rules I) (rules : F → Rules I) (n : ℕ) (children : List I) (hints : List ℕ) (s t : State F I) (result : Result X E) → OnOk result (Finishes r n children hints s t) → OnErr result (Inserts rules n s t)
     → Opens s.roots s.history → Opens t.roots t.history
-opens_finish r rules n s t (Ok x) done kept o = opens_next done.next o
-opens_finish r rules n s t (Err e) done kept o = opens_inserts kept o
+opens_finish r rules n children hints s t (Ok x) done kept o = opens_next done.next o
+opens_finish r rules n children hints s t (Err e) done kept o = opens_inserts kept o

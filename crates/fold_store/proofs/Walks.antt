@@ -25,7 +25,7 @@ and_right : (a b : Bool) → a ≡ true → (a && b) ≡ false → b ≡ false
 and_right true b p q = q
 and_right false b p q = absurd (cc)
 
-both_true : (a b : Bool) → (a && b) ≡ true → (a ≡ true) × (b ≡ true)
+pub both_true : (a b : Bool) → (a && b) ≡ true → (a ≡ true) × (b ≡ true)
 both_true true b p = (refl, p)
 both_true false b p = absurd (cc)
 

@@ -1,5 +1,8 @@
+pub mod Forest
+pub mod Hints
 pub mod Journal
 pub mod Ladder
+pub mod Log
 pub mod Store
 pub mod Table
 pub mod Work

@@ -12,7 +12,7 @@ use Rattle.fold_core.specs.declared.event.Status.TheVariants.{Waiting, Taken as 
 use Rattle.fold_core.specs.declared.event.Event.{Event}
 use Rattle.fold_core.specs.declared.event.Event.TheVariants.{Root, Take, Insert, Finish}
 use Rattle.fold_core.specs.Rules.{Rules}
-use Rattle.fold_core.specs.Machine.{Entry, Core, Stands, is_taken, least_cover, least_waiting, taken_count, NextRoot, Expanding, Settles, LiveCover, let_go, placed, place_of, Step, After}
+use Rattle.fold_core.specs.Machine.{Entry, Core, Stands, is_taken, least_cover, least_waiting, taken_count, NextRoot, Expanding, Settles, let_go, placed, place_of, Step, After}
 use Rattle.fold_store.specs.declared.answer.Taken.{Taken}
 use Rattle.fold_store.specs.declared.answer.Taken.TheVariants.{Got, Nothing, Spent, Stopped}
 use Rattle.fold_store.specs.declared.answer.Verdict.{Verdict}
@@ -23,6 +23,7 @@ use Rattle.fold_store.specs.declared.error.InsertFail.{InsertFail}
 use Rattle.fold_store.specs.declared.error.InsertFail.TheVariants.{Full as InsertFull, NoMemory as InsertNoMemory}
 use Rattle.fold_store.specs.Table.{most_entries, AllFinished, TakenEntry, clip_status, clip_entry}
 use Rattle.fold_store.specs.Work.{Expansion}
+use Rattle.fold_store.specs.Hints.{HintSays, HintsSettle}
 
 -- A store: what the search began with, the events so far, and the state that they led to.
 pub record State (F I : Type 0) : Type 0 where
@@ -133,12 +134,12 @@ pub data Inserts {F I : Type 0} (rules : F → Rules I) (n : ℕ) (s : State F I
   nothing : Inserts rules n s s
   one_more : (t u : State F I) (child : ℕ) (p : Placed) → Inserts rules n s t → Next (rules t.rules) t (Insert n child p) u → Inserts rules n s u
 
--- A child x of entry n was placed: it is folded into a live entry that covers it, and nothing
+-- A child x of entry n was placed: its hint guides to an entry that it is folded into, and nothing
 -- changes, or it is inserted.
-pub data Settled {F I : Type 0} (r : Rules I) (n child : ℕ) (x : I) (s : State F I) : Placed → State F I → Type 0 where
-  folded : (into : ℕ) → LiveCover r x into s.core.entries → Settled r n child x s (Folded into) s
-  inserted : (p : Placed) (t : State F I) → p ≡ place_of r x s.core → Next r s (Insert n child p) t
-      → t.core ≡ placed r (length s.history) x (Child n child) p s.core → Settled r n child x s p t
+pub data Settled {F I : Type 0} (r : Rules I) (n child : ℕ) (x : I) (hint : Option ℕ) (s : State F I) : Placed → State F I → Type 0 where
+  folded : (into : ℕ) → HintSays r x hint s.core.entries (Some into) → Settled r n child x hint s (Folded into) s
+  inserted : (p : Placed) (t : State F I) → HintSays r x hint s.core.entries None → p ≡ place_of r x s.core → Next r s (Insert n child p) t
+      → t.core ≡ placed r (length s.history) x (Child n child) p s.core → Settled r n child x hint s p t
 
 -- The events up to the start led to a state from which the children of entry n, placed so by one
 -- event, lead to the state now, but for the ticks. Entry n is taken.
@@ -161,10 +162,12 @@ closed s start n places e = record s {
   };
 }
 
--- Entry n is finished: one event places its children.
-pub record Finishes {F I : Type 0} (r : Rules I) (n : ℕ) (s t : State F I) : Type 0 where
+-- Entry n is finished: one event places its children, each as the hint of the same place says.
+pub record Finishes {F I : Type 0} (r : Rules I) (n : ℕ) (children : List I) (hints : List ℕ) (s t : State F I) : Type 0 where
   pub places : List Placed
   pub next : Next r s (Finish n places) t
+  pub settled : Core I
+  pub by_hints : HintsSettle r (length s.history) n hints 0 children places s.core settled
 
 -- There is no room for some child.
 pub record NoRoomForOne {F I : Type 0} (r : Rules I) (s : State F I) (w : Expansion F I) : Type 0 where

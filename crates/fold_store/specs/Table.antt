@@ -1,10 +1,15 @@
 -- The entries of a store, and what is kept beside them so that no call walks the retired ones.
-use Rattle.std.specs.Prelude.{◌≡◌, ℕ, ◌+◌, ◌<◌, ◌≤◌, ◌++◌, Bool, true, false, ◌&&◌, not, if◌then◌else◌, List, [], ◌∷◌, length, Option, None, Some, slice_get, slice_set, min}
+use Rattle.std.specs.Prelude.{◌≡◌, ◌⊎◌, ℕ, ◌+◌, ◌<◌, ◌≤◌, ◌++◌, Bool, true, false, ◌&&◌, not, if◌then◌else◌, List, [], ◌∷◌, length, Option, None, Some, slice_get, slice_set, min}
 use Rattle.fold_core.specs.declared.event.Origin.{Origin}
 use Rattle.fold_core.specs.declared.event.Status.{Status}
 use Rattle.fold_core.specs.declared.event.Status.TheVariants.{Waiting, Taken, Finished, Retired}
 use Rattle.fold_core.specs.Rules.{Rules}
 use Rattle.fold_core.specs.Machine.{Entry, Stands, is_live, is_waiting, is_taken, taken_count}
+use Rattle.fold_core.specs.Facts.{Leads}
+use Rattle.fold_store.specs.declared.forest.Node.{Node}
+use Rattle.fold_store.specs.Forest.{SameInClass}
+use Rattle.fold_store.specs.declared.log.Mark.{Mark}
+use Rattle.fold_store.specs.Log.{Marked}
 
 -- The most entries that a store has.
 abbrev pub most_entries : ℕ
@@ -62,6 +67,17 @@ pub record Indexed {I : Type 0} (es : List (Entry I)) (live : List ℕ) (first t
   pub first_within : first ≤ length es
   pub taken_is : taken ≡ taken_count es
 
+-- The numbers of a forest are those of the entries, and each class has one end of its pointers.
+pub record Joined {I : Type 0} (es : List (Entry I)) (nodes : List Node) : Type 0 where
+  pub many : length nodes ≡ length es
+  pub end_of : ℕ → ℕ
+  pub leads : (n : ℕ) (e : Entry I) → Stands es n e → Leads es n (end_of n)
+  pub same : SameInClass end_of nodes
+
+-- Each retired entry is marked in the log, by its tick or a later one.
+pub record Logged {I : Type 0} (es : List (Entry I)) (marks : List Mark) : Type 0 where
+  pub marked : (n : ℕ) (e : Entry I) (to tick : ℕ) (taken : Bool) → Stands es n e → e.status ≡ Retired to tick taken → Marked marks n tick
+
 -- Entry n is taken.
 pub record TakenEntry {I : Type 0} (n : ℕ) (es : List (Entry I)) : Type 0 where
   pub entry : Entry I
@@ -106,6 +122,18 @@ clip_status bound (Retired to tick taken) = Retired to (min tick bound) taken
 
 abbrev pub clip_entry : {I : Type 0} → ℕ → Entry I → Entry I
 clip_entry bound e = record e { status = clip_status bound e.status }
+
+-- The entries with the tick of entry n brought down to the bound, if there is such an entry.
+abbrev pub clip_option : {I : Type 0} → ℕ → ℕ → List (Entry I) → Option (Entry I) → List (Entry I)
+clip_option bound n es None = es
+clip_option bound n es (Some e) = slice_set es n (clip_entry bound e)
+
+-- The ticks of the entries that stand in the log from one place to another were brought down to the
+-- bound; other entries stand as they were, or so too.
+pub record ClipsMarked {I : Type 0} (bound from end : ℕ) (marks : List Mark) (es fs : List (Entry I)) : Type 0 where
+  pub many : length fs ≡ length es
+  pub either : (n : ℕ) (e : Entry I) → Stands es n e → Stands fs n e ⊎ Stands fs n (clip_entry bound e)
+  pub clipped : (k : ℕ) (mark : Mark) (e : Entry I) → from ≤ k → k < end → Stands marks k mark → Stands es mark.number e → Stands fs mark.number (clip_entry bound e)
 
 -- No entry was retired by an event past this tick.
 pub record TicksWithin {I : Type 0} (bound : ℕ) (es : List (Entry I)) : Type 0 where

@@ -6,6 +6,7 @@ ghost use Rattle.fold_core.specs.Machine.{Entry, Core, Stands, LiveCover, Overfl
 ghost use Rattle.fold_core.specs.Facts.{Leads};
 ghost use Rattle.fold_store.specs.Table.{most_entries, clip_entry, TicksWithin};
 ghost use Rattle.fold_store.specs.Store.{State, Next, event_of, MayPlace, NoRoom, Takes, item_at, IsFor, NoRoomFor, NoRoomForOne, HasVerdict, ChildOf, Settled, Closing, closed, Finishes, Inserts, RootsAlone, PlacesRoot, OpensFull};
+ghost use Rattle.fold_store.specs.Hints.{HintSays};
 
 use crate::answer::{Places, Taken, Verdict};
 use crate::error::{InsertFail, StoreFail};
@@ -297,17 +298,17 @@ impl<F: Folding> Ledger<F> {
         &self,
         alloc: Global,
         item: &F::Item,
-        hint: Option<&u32>,
+        hint: Option<u32>,
     ) -> Result<Option<u32>, NoMemory>
-        ensures { IfOk result (λ o. IfSome o (λ n. LiveCover (F.rules self.now.rules) item.now n self.now.core.entries)) }
+        ensures { IfOk result (HintSays (F.rules self.now.rules) item.now hint self.now.core.entries) }
     {
-        let Some(hint) = hint else {
+        let Some(number) = hint else {
             return Ok(None);
         };
-        if *hint >= self.table.len() {
+        if number >= self.table.len() {
             return Ok(None);
         }
-        let end = self.follow(*hint);
+        let end = self.follow(number);
         let Some(kept) = self.table.get(end) else {
             return Ok(None);
         };
@@ -326,10 +327,10 @@ impl<F: Folding> Ledger<F> {
         item: &F::Item,
         parent: u32,
         child: u64,
-        hint: Option<&u32>,
+        hint: Option<u32>,
     ) -> Result<Placed, StoreFail>
         requires { ChildOf (F.rules self.old.rules) self.old.core parent child item.now }
-        ensures ok { IfOk result (λ p. Settled (F.rules self.old.rules) parent child item.now self.old p self.new) }
+        ensures ok { IfOk result (λ p. Settled (F.rules self.old.rules) parent child item.now hint self.old p self.new) }
         ensures full { IsErrOf result StoreFail.Full → NoRoom (F.rules self.old.rules) item.now self.old.core }
         ensures err { OnErr result (self.new ≡ self.old) }
     {
@@ -367,7 +368,7 @@ impl<F: Folding> Ledger<F> {
         work: &Work<'_, F>,
         hints: &Places,
     ) -> Result<(), InsertFail>
-        ensures ok { OnOk result (Finishes (F.rules self.old.rules) id self.old self.new) }
+        ensures ok { OnOk result (Finishes (F.rules self.old.rules) id work.now.children hints.now self.old self.new) }
         ensures stranger { IsErrOf result InsertFail.Stranger ↔ (IsFor self.old id work.now → ⊥) }
         ensures full { IsErrOf result InsertFail.Full → NoRoomForOne (F.rules self.old.rules) self.new work.now }
         ensures kept { OnErr result (Inserts F.rules id self.old self.new) }
@@ -379,7 +380,7 @@ impl<F: Folding> Ledger<F> {
         let start = self.events();
         let mut places = List::new(alloc);
         for child in 0..work.children() {
-            let hint = hints.get(child as usize);
+            let hint = hints.get(child as usize).copied();
             let placed = self.settle(alloc, work.child(child), id, child, hint)?;
             places.push(placed)?;
         }

@@ -5,8 +5,10 @@
 mod answer;
 mod entry;
 mod error;
+mod forest;
 mod journal;
 mod ledger;
+mod log;
 mod store;
 mod table;
 #[cfg(test)]

@@ -108,7 +108,7 @@ impl<F: Folding> Store<F> {
         work: &Work<'_, F>,
         hints: &Places,
     ) -> Result<(), InsertFail>
-        ensures ok { OnOk result (Finishes (F.rules self.old.rules) id self.old self.new) }
+        ensures ok { OnOk result (Finishes (F.rules self.old.rules) id work.now.children hints.now self.old self.new) }
         ensures stranger { IsErrOf result InsertFail.Stranger ↔ (IsFor self.old id work.now → ⊥) }
         ensures full { IsErrOf result InsertFail.Full → NoRoomForOne (F.rules self.old.rules) self.new work.now }
         ensures kept { OnErr result (Inserts F.rules id self.old self.new) }

@@ -1,12 +1,15 @@
 ghost use Rattle.std.specs.Prelude.{◌≡◌, ◌<◌, ◌≤◌, ◌+◌, ◌↔◌, ℕ, not, [], ◌∷◌, ◌++◌, length, None, map, slice_get, slice_set, IsTrue, IfOk, OnOk, OnErr, IfSome};
 ghost use Rattle.std.specs.Option.{option_copied};
 ghost use Rattle.std.specs.List.{filter};
+ghost use Rattle.std.specs.Vec.{vec_capacity};
 ghost use Rattle.fold_core.specs.declared.event.Status.TheVariants.{Waiting, Taken};
 ghost use Rattle.fold_core.specs.Machine.{Entry, Stands, is_waiting, taken_count, least_cover, least_waiting, overtaken, let_go, put_back_entry};
-ghost use Rattle.fold_store.specs.Table.{most_entries, live_numbers, covers_at, covered_at, first_passing, retire_option, retire_each, NoneWaits, TakenEntry, SplitsLive, with_kept, unfinished_at, AllFinished, PointsForward, clip_entry};
+ghost use Rattle.fold_store.specs.Table.{most_entries, live_numbers, covers_at, covered_at, first_passing, retire_option, retire_each, NoneWaits, TakenEntry, SplitsLive, with_kept, unfinished_at, AllFinished, PointsForward, clip_entry, clip_option, ClipsMarked};
 ghost use Rattle.fold_core.specs.Facts.{Leads};
 
 use crate::entry::Kept;
+use crate::forest::Forest;
+use crate::log::{Log, Mark};
 use fold_core::{Folding, NoMemory, Origin, Status};
 use std::alloc::Global;
 use std::marker::Model;
@@ -18,6 +21,10 @@ const MOST_ENTRIES: usize = 100_000;
 #[derive(Drop)]
 pub(crate) struct Table<I> {
     entries: Vec<Kept<I>>,
+    /// In a class are the entries whose pointers lead to the same live one, which is its last.
+    forest: Forest,
+    /// Which entries were retired, so that the last are found.
+    log: Log,
     /// The numbers of the live entries, ascending.
     live: Vec<u32>,
     /// No entry below this number waits.
@@ -29,13 +36,13 @@ pub(crate) struct Table<I> {
 impl<I> Model for Table<I> {
     ghost use Rattle.std.specs.Prelude.{List};
     ghost use Rattle.fold_core.specs.Machine.{Entry};
-    ghost use Rattle.fold_store.specs.Table.{Indexed};
+    ghost use Rattle.fold_store.specs.Table.{Indexed, Joined, Logged};
 
     ghost Value = { List (Entry I) };
 
     ghost view = { λ t. t.entries.items };
 
-    ghost invariant = { λ t. Indexed t.entries.items t.live.items t.first t.taken };
+    ghost invariant = { λ t. Indexed t.entries.items t.live.items t.first t.taken × Joined t.entries.items t.forest × Logged t.entries.items t.log };
 }
 
 /// The live entries once an item is known: those that it covers, and the others.
@@ -118,6 +125,17 @@ fn split_live<F: Folding>(
         }
     }
     Ok(Split { covered, others })
+}
+
+/// Adds an entry where there is room for it.
+fn push_within<I: Drop>(entries: &mut Vec<Kept<I>>, kept: Kept<I>)
+    requires { length entries.old.items < vec_capacity entries.old }
+    ensures { entries.new.items ≡ entries.old.items ++ kept ∷ [] }
+{
+    match entries.push(kept) {
+        Ok(()) => {}
+        Err(_) => unreachable!(),
+    }
 }
 
 /// Entry `to` retires entry `number`, by the event at the tick.
@@ -224,20 +242,22 @@ fn put_back_all<I>(entries: &mut Vec<Kept<I>>)
     }
 }
 
-/// Brings the tick of entry `at` down to the bound.
-fn clip_at<I>(entries: &mut Vec<Kept<I>>, at: usize, bound: u64)
-    requires { at < length entries.old.items }
-    ensures { (e : Entry I) → Stands entries.old.items at e → entries.new.items ≡ slice_set entries.old.items at (clip_entry bound e) }
+/// Brings the tick of an entry down to the bound, if there is such an entry.
+fn clip<I>(entries: &mut Vec<Kept<I>>, number: u32, bound: u64)
+    ensures { entries.new.items ≡ clip_option bound number entries.old.items (slice_get entries.old.items number) }
 {
-    entries[at].clip(bound);
+    if let Some(kept) = entries.get_mut(number as usize) {
+        kept.clip(bound);
+    }
 }
 
-/// Brings each tick down to the bound.
-fn clip_all<I>(entries: &mut Vec<Kept<I>>, bound: u64)
-    ensures { entries.new.items ≡ map (clip_entry bound) entries.old.items }
+/// Brings the ticks of the entries that are marked from a place on down to the bound.
+fn clip_marked<I>(entries: &mut Vec<Kept<I>>, marks: &[Mark], from: usize, bound: u64)
+    requires { from ≤ length marks.now }
+    ensures { ClipsMarked bound from (length marks.now) marks.now entries.old.items entries.new.items }
 {
-    for at in 0..entries.len() {
-        clip_at(entries, at, bound);
+    for at in from..marks.len() {
+        clip(entries, marks[at].number, bound);
     }
 }
 
@@ -248,6 +268,8 @@ impl<I> Table<I> {
     {
         Table {
             entries: Vec::new(alloc),
+            forest: Forest::new(alloc),
+            log: Log::new(alloc),
             live: Vec::new(alloc),
             first: 0,
             taken: 0,
@@ -290,13 +312,14 @@ impl<I> Table<I> {
         none_unfinished(self.entries.as_slice(), self.live.as_slice())
     }
 
-    /// The live entry at the end of the pointers from an entry.
+    /// The live entry at the end of the pointers from an entry. The walk begins at the last of the
+    /// entry's class, so it is short however many pointers there are.
     pub(crate) fn follow(&self, from: u32) -> u32
         requires within { from < length self.now }
         requires forward { PointsForward self.now }
         ensures { Leads self.now from result }
     {
-        follow_pointers(self.entries.as_slice(), from)
+        follow_pointers(self.entries.as_slice(), self.forest.last(from))
     }
 
     /// The numbers of the live entries, ascending.
@@ -342,7 +365,9 @@ impl<I> Table<I> {
     pub(crate) fn clip(&mut self, bound: u64)
         ensures { self.new ≡ map (clip_entry bound) self.old }
     {
-        clip_all(&mut self.entries, bound);
+        let from = self.log.newer(bound);
+        clip_marked(&mut self.entries, self.log.marks(), from, bound);
+        self.log.clip(from, bound);
     }
 
     /// What is taken waits again, or isn't taken any more where it is retired.
@@ -387,8 +412,12 @@ fn keep_split<I: Drop>(
     } = split;
     let to = table.entries.len() as u32;
     others.push(to)?;
-    table.entries.push(Kept::new(item, origin))?;
+    table.entries.reserve(1)?;
+    table.log.add_all(covered.as_slice(), tick)?;
+    table.forest.add()?;
+    push_within(&mut table.entries, Kept::new(item, origin));
     retire_all(&mut table.entries, covered.as_slice(), to, tick);
+    table.forest.join_all(covered.as_slice(), to);
     table.live = others;
     Ok(())
 }

@@ -75,7 +75,7 @@ fn open<F: Folding<Item = u64> + Drop>(
 }
 
 /// The end of the pointers from an entry, and where the entry comes from.
-fn end_and_origin(rt: &impl Abort, store: &Store<Numbers>, id: u32) -> (u32, Origin) {
+fn end_and_origin<F: Folding>(rt: &impl Abort, store: &Store<F>, id: u32) -> (u32, Origin) {
     assert!(rt; id < store.entries());
     (store.follow(id), store.origin(id))
 }
@@ -130,13 +130,22 @@ fn check_full(
     Ok(())
 }
 
-/// Only the last entry lives.
+/// Only the last entry lives, and the pointers of the first lead to it.
 fn check_last(rt: &impl Abort, alloc: Global, store: &Store<Ladder>) -> Result<(), NoMemory> {
     assert!(rt; store.entries() == 100_000);
+    assert!(rt; end_and_origin(rt, store, 0) == (99_999, Origin::Root(0)));
     let live = store.live(alloc)?;
     assert!(rt; live.len() == 1);
     assert!(rt; live.get(0).copied() == Some(99_999));
     Ok(())
+}
+
+/// The first entry is taken still, and can't be finished, since there is no room for a child.
+fn check_taken(rt: &impl Abort, alloc: Global, store: &mut Store<Ladder>, work: &Work<'_, Ladder>) {
+    let hints = List::new(alloc);
+    let full = store.finish(alloc, 0, work, &hints);
+    assert!(rt; matches!(full, Err(InsertFail::Full)));
+    assert!(rt; store.finished() == 0);
 }
 
 // A full store, and a work of another item.
@@ -152,6 +161,7 @@ fn a_ladder_fills_the_store(rt: HostRuntime) -> Result<(), Fail> {
     fill(&rt, alloc, &mut store, &work)?;
     check_full(&rt, alloc, &mut store, &work)?;
     check_last(&rt, alloc, &store)?;
+    check_taken(&rt, alloc, &mut store, &work);
     let other = Work::make(alloc, &rules, 1)?;
     let stranger = insert(&rt, alloc, &mut store, &other, 0);
     assert!(rt; matches!(stranger, Err(InsertFail::Stranger)));
@@ -196,12 +206,13 @@ fn finish(
 #[test]
 fn a_reset_puts_back(rt: HostRuntime) -> Result<(), Fail> {
     let alloc = rt.alloc();
-    let mut store = open(alloc, plain(1), [10, 0].as_slice(), 1)?;
+    let mut store = open(alloc, plain(1), [10, 0].as_slice(), 2)?;
     assert!(rt; store.take() == Taken::Got(0));
     store.reset()?;
     check_live(&rt, alloc, &store, [0, 1].as_slice())?;
     assert!(rt; store.take() == Taken::Got(0));
-    assert!(rt; store.take() == Taken::Spent);
+    assert!(rt; store.take() == Taken::Got(1));
+    assert!(rt; store.take() == Taken::Nothing);
     Ok(())
 }
 

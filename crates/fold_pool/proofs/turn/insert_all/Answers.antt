@@ -1,12 +1,15 @@
-use Rattle.fold_store.proofs.Finishing.{always_err}
+use Rattle.std.proofs.Common.{arith, ◌≡◌, length, refl, ap, subst, sym}
 use Rattle.fold_store.specs.Store.{Inserts}
-use Rattle.fold_pool.specs.Turn.{none_yet, then_next}
-use Rattle.fold_pool.proofs.Turns.{inserts_of}
+use Rattle.fold_store.proofs.Finishing.{always_err}
+use Rattle.fold_pool.proofs.Turns.{inserts_of, ordered_none, ordered_next, longer_next}
 use Rattle.fold_pool.proofs.turn.insert_all.Goals as goal
-use Rattle.std.proofs.Common.{subst, sym}
 
 pub loop-child-init : goal.loop-child-init
-loop-child-init g c = record { ordered = none_yet; is_for = c.requires }
+loop-child-init g c = record {
+  ordered = ordered_none g.F.Folding.rules c.args.id c.args.store.now c.new-entries.result c.new-entries.ensures;
+  number = ap length c.new-entries.ensures;
+  is_for = c.requires;
+}
 
 pub returns-in_err-number-clause-left : goal.returns-in_err-number-clause-left
 returns-in_err-number-clause-left g c =
@@ -14,11 +17,17 @@ returns-in_err-number-clause-left g c =
 
 pub returns-in_err-push-clause-left : goal.returns-in_err-push-clause-left
 returns-in_err-push-clause-left g c =
-    always_err c.from_residual-in_err-push.result
-    (inserts_of (then_next c.loop-child.child c.loop-child.store c.insert.new.store c.in_ok-number.ensures.ok.placed c.loop-child.invariant.ordered c.in_ok-number.ensures.ok.next))
+    always_err c.from_residual-in_err-push.result (inserts_of (ordered_next c.loop-child.invariant.ordered c.loop-child.invariant.number c.in_ok-number.ensures.ok refl))
 
 pub loop-child-preserved : goal.loop-child-preserved
 loop-child-preserved g c = record {
-  ordered = then_next c.loop-child.child c.loop-child.store c.insert.new.store c.in_ok-number.ensures.ok.placed c.loop-child.invariant.ordered c.in_ok-number.ensures.ok.next;
+  ordered = ordered_next c.loop-child.invariant.ordered c.loop-child.invariant.number c.in_ok-number.ensures.ok c.in_ok-push.ensures.ok;
+  number = longer_next c.loop-child.entries c.push.new.self c.in_ok-number.number c.loop-child.child c.in_ok-push.ensures.ok c.loop-child.invariant.number;
   is_for = c.insert.ensures.is_for;
 }
+
+pub returns-clause-ok : goal.returns-clause-ok
+returns-clause-ok g c =
+    let many : length c.loop-child.entries ≡ length c.args.work.now.children =
+    (let n = c.loop-child.invariant.number in let h = c.loop-child-test.false in let k = c.loop-child.auto.child-end in let total = c.children-child-end.ensures.number in omega arith) in
+    record { inserts = c.loop-child.invariant.ordered; all = many }

@@ -1,4 +1,4 @@
-use Rattle.std.proofs.Common.{arith, ◌≤◌, length, [], refl}
+use Rattle.std.proofs.Common.{arith, ◌≤◌, length, [], refl, ◌∙◌}
 use Rattle.fold_store.specs.Store.{IsFor, nothing}
 use Rattle.fold_store.proofs.Finishing.{finishing_start, finishing_closing, finishing_done, finishing_taken, inserts_settled, always_err, take_whole}
 use Rattle.fold_store.proofs.ledger.Ledger.finish.Goals as goal
@@ -9,13 +9,14 @@ returns-then-not-is_for-clause-kept g c = nothing
 pub loop-child-init : goal.loop-child-init
 loop-child-init g c =
     let f : IsFor c.args.self.now c.args.id c.args.work.now = c.is_for.ensures.0 c.if-not-is_for.false in
-    finishing_start g.F.Folding.rules c.args.self.now c.args.id c.args.work.now [] c.new-places.result (g.met.F.Folding.lawful c.args.self.now.rules) c.events-start.ensures.after f c.children-child-end.ensures.expands refl c.new-places.ensures
+    finishing_start g.F.Folding.rules c.args.self.now c.args.id c.args.hints.now c.args.work.now [] c.new-places.result (g.met.F.Folding.lawful c.args.self.now.rules) c.events-start.ensures.after f c.children-child-end.ensures.expands refl c.new-places.ensures
 
 pub returns-in_err-push-clause-kept : goal.returns-in_err-push-clause-kept
 returns-in_err-push-clause-kept g c = always_err c.from_residual-in_err-push.result (inserts_settled g.F.Folding.rules c.in_ok-placed.ensures.ok c.loop-child.invariant.inserts)
 
 pub loop-child-preserved : goal.loop-child-preserved
-loop-child-preserved g c = finishing_taken c.in_ok-placed.ensures.ok c.loop-child.invariant c.child.ensures.stands c.in_ok-push.ensures.ok
+loop-child-preserved g c =
+    finishing_taken c.in_ok-placed.ensures.ok c.loop-child.invariant c.child.ensures.stands (c.copied-hint.ensures ∙ c.get.ensures.value) c.in_ok-push.ensures.ok
 
 pub close-requires : goal.close-requires
 close-requires g c =
