@@ -1,0 +1,9 @@
+pub mod Existence
+pub mod Forms
+pub mod Kept
+pub mod Occurrences
+pub mod Parts
+pub mod Root
+pub mod Sorted
+pub mod Under
+pub mod Walk

@@ -1,0 +1,3 @@
+pub mod Innermost
+pub mod Rewriting
+pub mod Stepping

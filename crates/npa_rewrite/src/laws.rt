@@ -1,0 +1,73 @@
+//! Laws of rewriting. Each function does nothing: its clauses are the laws, for the proofs of the
+//! crates above.
+
+ghost use Rattle.std.specs.Prelude.{◌≡◌, ◌<◌, IsTrue, Contains, None, List, [], ◌∷◌, ◌++◌};
+ghost use Rattle.npa_sorts.specs.Subsorts.{IsAtOrBelow};
+ghost use Rattle.npa_term.specs.declared.term.Op.{Op};
+ghost use Rattle.npa_term.specs.declared.term.Term.{Term, App};
+ghost use Rattle.npa_term.specs.declared.term.Var.{Var as Variable};
+ghost use Rattle.npa_term.specs.Bound.{applied};
+ghost use Rattle.npa_term.specs.Canonical.{canonical};
+ghost use Rattle.npa_term.specs.Same.{Same};
+ghost use Rattle.npa_term.specs.Symbols.{symbol_count};
+ghost use Rattle.npa_term.specs.Variables.{IsGround, variables};
+ghost use Rattle.npa_match.specs.Matching.{IsPart, image, least_sort};
+ghost use Rattle.npa_sig.specs.Signature.{Signature, first_op_fault};
+ghost use Rattle.npa_sig.specs.Sorting.{well_sorted};
+ghost use Rattle.npa_rewrite.specs.declared.theory.Theory.{Theory};
+ghost use Rattle.npa_rewrite.specs.Rewriting.{AllCancel, IsConvergent, IsLeastNormalForm, IsNormal, IsNormalFormOf, PairsCommute, Rewrites, Steps};
+
+/// Terms that are equal modulo commutativity make the same steps, a step of an argument is one of
+/// the application, and what a step makes is canonical. Where all equations cancel, it is smaller
+/// than the term, of a sort at or below the term's, and ground where the term is. Where commutative
+/// operators take two arguments of one sort, it is well sorted where the term is, and so are the
+/// terms that a substitution has for the variables of a left side.
+pub fn step_laws()
+    ensures classes { (th : Theory) (t u v : Term) → Same t u → Rewrites th u v → Rewrites th t v }
+    ensures arguments { (th : Theory) (op : Op) (before after : List Term) (t u : Term)
+        → Rewrites th t u → Rewrites th (App op (before ++ t ∷ after))
+        (canonical (App op (before ++ u ∷ after))) }
+    ensures canonical { (th : Theory) (t u : Term) → Rewrites th t u → canonical u ≡ u }
+    ensures smaller { (th : Theory) (t u : Term) → AllCancel th → Rewrites th t u
+        → symbol_count u < symbol_count t }
+    ensures sorts { (th : Theory) (t u : Term) → AllCancel th → Rewrites th t u
+        → IsAtOrBelow th.sig.sorts (least_sort u) (least_sort t) }
+    ensures sorted { (th : Theory) (t u : Term) → AllCancel th → PairsCommute th.sig
+        → Rewrites th t u → IsTrue (well_sorted th.sig t) → IsTrue (well_sorted th.sig u) }
+    ensures values { (sig : Signature) (t left : Term) (s : List (Variable × Term)) (v : Variable)
+        → PairsCommute sig → Same t (applied s left) → IsTrue (well_sorted sig t)
+        → Contains (variables left) v → IsTrue (well_sorted sig (image s v)) }
+    ensures groundness { (th : Theory) (t u : Term) → AllCancel th → Rewrites th t u
+        → IsGround t → IsGround u }
+{}
+
+/// What equals a normal term modulo commutativity is normal, and so is a part of it. It has no
+/// normal form but its canonical form. Where all equations cancel, each term has a normal form, and
+/// what a ground term rewrites to is ground; a normal form of a well-sorted term is well sorted
+/// where commutative operators take two arguments of one sort.
+pub fn normal_laws()
+    ensures classes { (th : Theory) (t u : Term) → Same t u → IsNormal th t → IsNormal th u }
+    ensures parts { (th : Theory) (t u : Term) → IsPart t u → IsNormal th u → IsNormal th t }
+    ensures settled { (th : Theory) (t u : Term) → IsNormal th t → Steps th (canonical t) u
+        → u ≡ canonical t }
+    ensures some { (th : Theory) (t : Term) → AllCancel th → (u : Term) × IsNormalFormOf th t u }
+    ensures sorted { (th : Theory) (t u : Term) → AllCancel th → PairsCommute th.sig
+        → Steps th (canonical t) u → IsTrue (well_sorted th.sig t) → IsTrue (well_sorted th.sig u) }
+    ensures groundness { (th : Theory) (t u : Term) → AllCancel th → Steps th t u → IsGround t
+        → IsGround u }
+{}
+
+/// In a signature whose operators can all be declared, a commutative one takes two arguments of one
+/// sort.
+pub fn signature_laws()
+    ensures { (sig : Signature) → first_op_fault [] sig.ops ≡ None → PairsCommute sig }
+{}
+
+/// In a convergent theory any two normal forms of a well-sorted term are one, and so a normal form
+/// is the least one.
+pub fn convergence_laws()
+    ensures one { (th : Theory) (t u v : Term) → IsConvergent th → IsTrue (well_sorted th.sig t)
+        → IsNormalFormOf th t u → IsNormalFormOf th t v → u ≡ v }
+    ensures least { (th : Theory) (t u : Term) → IsConvergent th
+        → IsTrue (well_sorted th.sig t) → IsNormalFormOf th t u → IsLeastNormalForm th t u }
+{}

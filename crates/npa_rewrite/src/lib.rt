@@ -1,0 +1,16 @@
+//! Rewriting by equations modulo commutativity: single steps and normal forms.
+#![tactic(auto)]
+
+mod cancelling;
+mod laws;
+mod reduction;
+mod step;
+mod theory;
+
+pub use cancelling::{all_cancel, is_cancelling};
+pub use laws::{convergence_laws, normal_laws, signature_laws, step_laws};
+pub use reduction::{is_normal, normal_form, reduce};
+pub use theory::Theory;
+
+#[cfg(test)]
+mod tests;
