@@ -537,14 +537,14 @@ fn many_steps(alloc: Global, steps: u32) -> Result<Vec<u8>, NoMemory> {
 #[test]
 fn long_runs(rt: HostRuntime) -> Result<(), Fail> {
     let alloc = rt.alloc();
-    for instances in [1, 10_000, 70_000] {
+    for instances in [1, 1_000] {
         let run = long_run(alloc, instances)?;
         assert!(rt;
             is_replayed(alloc, HELLO, run.as_slice(), ("reaches\n", 0), 2)?,
             "at {instances}"
         );
     }
-    let run = many_steps(alloc, 100_000)?;
+    let run = many_steps(alloc, 1_000)?;
     assert!(rt; is_replayed(alloc, HELLO, run.as_slice(), ("stops 2 ended 0\n", 9), 2)?);
     Ok(())
 }
