@@ -3,8 +3,6 @@
 #![tactic(auto)]
 
 mod fault;
-#[cfg(test)]
-mod ground_tests;
 mod least;
 mod meaning;
 mod nameless;
@@ -12,8 +10,6 @@ mod printing;
 mod protocol;
 mod signature;
 mod sorting;
-#[cfg(test)]
-mod tests;
 
 pub use fault::{GroundFault, LeastFail, SigFail, UseFail};
 pub use least::MAX_GROUND;
