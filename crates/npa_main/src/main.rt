@@ -36,6 +36,3 @@ fn words_of(rt: &HostRuntime) -> io::Result<Words> {
     }
     Ok(words)
 }
-
-#[cfg(test)]
-mod tests;
