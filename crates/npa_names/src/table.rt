@@ -30,6 +30,15 @@ impl NameTable {
         }
     }
 
+    /// A table of the same names in the same order. It takes memory for each of them.
+    pub fn copy(&self) -> Result<NameTable, AllocError>
+        ensures { IfOk result (λ copy. copy ≡ self.now) }
+    {
+        Ok(NameTable {
+            names: self.names.clone()?,
+        })
+    }
+
     /// How many names the table has.
     pub fn len(&self) -> usize
         ensures { result ≡ length self.now }

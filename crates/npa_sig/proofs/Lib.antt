@@ -1,6 +1,7 @@
 pub mod Rows
 pub mod Declared
 pub mod Meanings
+pub mod Scoping
 pub mod Prints
 pub mod Grounds
 pub mod SizeSteps

@@ -15,10 +15,6 @@ use Rattle.npa_sig.specs.declared.meaning.Head.TheVariants.{Variable, Fresh, Ope
 use Rattle.npa_sig.specs.Signature.{Signature}
 use Rattle.npa_sig.specs.Meaning.{variable_of, head_of, sort_at, one_fits, all_fit, fits, is_none_left, unknown, unfit, with_args, in_front, judged, read, read_row, sorts_of_row, read_all, Tells, TellsFault}
 
-pub variable_of_step : (word : List ℕ) (scope : List Scoped) (k : ℕ) (d : Scoped) → k < length scope →
-    variable_of word (drop k scope) ≡ cond (bytes_eq word (get_or scope k d).name) (Some (get_or scope k d).var) (variable_of word (drop (k + 1) scope))
-variable_of_step word scope k d p = rw (drop-cons scope k d, add-one) refl
-
 -- what was read so far, in front of what is read of the rest
 abbrev pub with_front : List Term → Result (List Term) UseFail → Result (List Term) UseFail
 with_front made (Ok ts) = Ok (made ++ ts)

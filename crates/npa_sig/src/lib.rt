@@ -2,19 +2,35 @@
 //! what a term of a text means, and how a term is printed.
 #![tactic(auto)]
 
+mod copying;
 mod fault;
 mod least;
 mod meaning;
 mod nameless;
 mod printing;
 mod protocol;
+mod scope;
 mod signature;
 mod sorting;
 
 pub use fault::{GroundFault, LeastFail, SigFail, UseFail};
 pub use least::MAX_GROUND;
-pub use meaning::{Scope, Scoped, resolve, sort_at};
+pub use meaning::{Scoped, resolve, sort_at};
 pub use npa_sorts::{FRESH, MSG, SortNums};
 pub use printing::print_term;
-pub use protocol::{Equation, Equations, Event, Events, Protocol, Strand, Strands};
+pub use protocol::{Equation, Equations, Event, Events, Protocol, Strand, Strands, copy_equations};
+pub use scope::Scope;
 pub use signature::{OpDecl, OpDecls, Sig};
+
+#[cfg(test)]
+mod copying_tests;
+#[cfg(test)]
+mod ground_tests;
+#[cfg(test)]
+mod samples;
+#[cfg(test)]
+mod term_tests;
+#[cfg(test)]
+mod tests;
+#[cfg(test)]
+mod text_tests;

@@ -1,9 +1,10 @@
 ghost use Rattle.std.specs.Prelude.{◌≡◌, map, [], None, Some, true, IfOk, All, Contains};
 ghost use Rattle.npa_term.specs.Variables.{IsGround, variables};
 ghost use Rattle.npa_sig.specs.Sorting.{sort_of, well_sorted};
-ghost use Rattle.npa_sig.specs.Meaning.{read, Gives, IsSorted, scope_variables, head_of, word_head, is_fresh_name, variable_of, operator_of, sort_at, fits, all_fit, one_fits, unknown, unfit, Tells};
+ghost use Rattle.npa_sig.specs.Meaning.{read, Gives, IsSorted, scope_variables, head_of, word_head, is_fresh_name, operator_of, sort_at, fits, all_fit, one_fits, unknown, unfit, Tells};
 
 use crate::fault::UseFail;
+use crate::scope::Scope;
 use crate::signature::Sig;
 use npa_list::List;
 use npa_sorts::FRESH;
@@ -18,9 +19,6 @@ pub struct Scoped {
     pub var: Var,
 }
 
-/// The names that stand for variables in an item of a module.
-pub type Scope = List<Scoped>;
-
 /// What the first word of a term stands for.
 #[derive(Clone, Copy, Debug)]
 enum Head {
@@ -30,8 +28,9 @@ enum Head {
 }
 
 /// The term that a term of a text stands for. A word stands for the variable that the scope gives
-/// it, or else for the operator of that name, and a fresh name of the text for itself. A refusal names the first word at fault, in the
-/// order of the text; a wrong number or sort of arguments is a fault of the word that has them.
+/// it, or else for the operator of that name, and a fresh name of the text for itself. A refusal
+/// names the first word at fault, in the order of the text; a wrong number or sort of arguments is
+/// a fault of the word that has them.
 #[tactic(auto, using(crate::proofs::Grounds::ground_answer, crate::proofs::Sorted::sorted_answer, crate::proofs::Sorted::own_answer, crate::proofs::Sorted::told_answer))]
 pub fn resolve(
     alloc: Global,
@@ -46,16 +45,10 @@ pub fn resolve(
     ensures own { IfOk result (λ t. All (Contains (scope_variables scope.now)) (variables t)) }
     ensures told { IfOk result (λ t. sort_at sig.now scope.now bytes.now raw.now ≡ Some (sort_of t)) }
 {
-    read(alloc, sig, scope.as_slice(), bytes, raw)
+    read(alloc, sig, scope, bytes, raw)
 }
 
-fn read(
-    alloc: Global,
-    sig: &Sig,
-    scope: &[Scoped],
-    bytes: &[u8],
-    raw: &Raw,
-) -> Result<Term, UseFail>
+fn read(alloc: Global, sig: &Sig, scope: &Scope, bytes: &[u8], raw: &Raw) -> Result<Term, UseFail>
     ensures { Gives result (read sig.now scope.now bytes.now raw.now) }
 {
     let args = raw.args.as_slice();
@@ -83,7 +76,7 @@ fn read(
 }
 
 // What the token stands for.
-fn head_of(sig: &Sig, scope: &[Scoped], bytes: &[u8], token: Token) -> Option<Head>
+fn head_of(sig: &Sig, scope: &Scope, bytes: &[u8], token: Token) -> Option<Head>
     ensures { result ≡ head_of sig.now scope.now bytes.now token }
 {
     if is_fresh_name(token.kind) {
@@ -102,26 +95,13 @@ fn is_fresh_name(kind: Kind) -> bool
 }
 
 // What the word stands for.
-fn word_head(sig: &Sig, scope: &[Scoped], word: &[u8]) -> Option<Head>
+fn word_head(sig: &Sig, scope: &Scope, word: &[u8]) -> Option<Head>
     ensures { result ≡ word_head sig.now scope.now word.now }
 {
-    match variable_of(scope, word) {
+    match scope.variable(word) {
         Some(v) => Some(Head::Variable(v)),
         None => operator_of(sig, word),
     }
-}
-
-// The variable that the scope gives the word.
-#[tactic(auto, using(crate::proofs::Meanings::variable_of_step))]
-fn variable_of(scope: &[Scoped], word: &[u8]) -> Option<Var>
-    ensures { result ≡ variable_of word.now scope.now }
-{
-    for scoped in scope {
-        if word == scoped.name.as_slice() {
-            return Some(scoped.var);
-        }
-    }
-    None
 }
 
 // The operator of that name.
@@ -139,7 +119,7 @@ fn operator_of(sig: &Sig, word: &[u8]) -> Option<Head>
 
 // Whether the head takes so many arguments, each of which has a sort at or below the declared
 // one or an unknown word in front.
-fn fits(sig: &Sig, scope: &[Scoped], bytes: &[u8], head: Head, args: &[Raw]) -> bool
+fn fits(sig: &Sig, scope: &Scope, bytes: &[u8], head: Head, args: &[Raw]) -> bool
     ensures { result ≡ fits sig.now head (map (sort_at sig.now scope.now bytes.now) args.now) }
 {
     match head {
@@ -153,7 +133,7 @@ fn fits(sig: &Sig, scope: &[Scoped], bytes: &[u8], head: Head, args: &[Raw]) -> 
 }
 
 #[tactic(auto, using(crate::proofs::Meanings::all_fit_step, crate::proofs::Meanings::all_fit_ends))]
-fn all_fit(sig: &Sig, scope: &[Scoped], bytes: &[u8], args: &[Raw], sorts: &[u16]) -> bool
+fn all_fit(sig: &Sig, scope: &Scope, bytes: &[u8], args: &[Raw], sorts: &[u16]) -> bool
     ensures { result ≡ all_fit sig.now (map (sort_at sig.now scope.now bytes.now) args.now) sorts.now }
 {
     if args.len() != sorts.len() {
@@ -178,7 +158,7 @@ fn one_fits(sig: &Sig, sort: Option<u16>, declared: u16) -> bool
 }
 
 /// The sort of a term, which its first word tells: `None` where that stands for nothing.
-pub fn sort_at(sig: &Sig, scope: &[Scoped], bytes: &[u8], raw: &Raw) -> Option<u16>
+pub fn sort_at(sig: &Sig, scope: &Scope, bytes: &[u8], raw: &Raw) -> Option<u16>
     ensures { result ≡ sort_at sig.now scope.now bytes.now raw.now }
 {
     match head_of(sig, scope, bytes, raw.head)? {

@@ -1,8 +1,11 @@
+ghost use Rattle.std.specs.Prelude.{◌≡◌, IfOk};
+
 use crate::signature::Sig;
 use npa_list::List;
 use npa_sorts::SortNums;
-use npa_term::Term;
+use npa_term::{NoMemory, Term, copy};
 use npa_text::{Name, Names};
+use std::alloc::Global;
 
 /// An equation of a theory, used from left to right.
 #[derive(Debug, Drop)]
@@ -11,8 +14,31 @@ pub struct Equation {
     pub right: Term,
 }
 
+impl Equation {
+    /// The same equation. It takes memory for both sides.
+    pub fn copy(&self, alloc: Global) -> Result<Equation, NoMemory>
+        ensures { IfOk result (λ copy. copy ≡ self.now) }
+    {
+        Ok(Equation {
+            left: copy(alloc, &self.left)?,
+            right: copy(alloc, &self.right)?,
+        })
+    }
+}
+
 /// A list of equations, in the order of the module.
 pub type Equations = List<Equation>;
+
+/// A copy of equations, in the same order. It takes memory for each of them.
+pub fn copy_equations(alloc: Global, equations: &[Equation]) -> Result<Equations, NoMemory>
+    ensures { IfOk result (λ copies. copies ≡ equations.now) }
+{
+    let mut copies = Vec::with_capacity(alloc, equations.len())?;
+    for equation in equations {
+        copies.push(equation.copy(alloc)?)?;
+    }
+    Ok(List::from_vec(copies))
+}
 
 /// An event of a strand: a message that it sends, or one that it receives.
 #[derive(Debug, Drop)]

@@ -4,6 +4,7 @@ ghost use Rattle.npa_sorts.specs.Subsorts.{IsSort, at_or_below};
 ghost use Rattle.npa_sig.specs.Signature.{Makes, Declares, bare, is_pair, op_fault, number_of, with_sort, with_subsort};
 ghost use Rattle.npa_sig.specs.Printing.{sort_text};
 
+use crate::copying::{copy_names, copy_ops};
 use crate::fault::SigFail;
 use npa_list::List;
 use npa_names::NameTable;
@@ -80,6 +81,18 @@ impl Sig {
             sort_names: List::new(alloc),
             ops: List::new(alloc),
             names: NameTable::new(alloc),
+        })
+    }
+
+    /// The same signature. It takes memory for its sorts, their names and its operators.
+    pub fn copy(&self, alloc: Global) -> Result<Sig, NoMemory>
+        ensures { IfOk result (λ copy. copy ≡ self.now) }
+    {
+        Ok(Sig {
+            sorts: self.sorts.copy(alloc)?,
+            sort_names: copy_names(alloc, self.sort_names.as_slice())?,
+            ops: copy_ops(alloc, self.ops.as_slice())?,
+            names: self.names.copy()?,
         })
     }
 

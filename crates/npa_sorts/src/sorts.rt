@@ -4,7 +4,7 @@ ghost use Rattle.std.specs.List.Sorted.{IsStrictlyIncreasing};
 ghost use Rattle.npa_sorts.specs.Subsorts.{subsorts, at_or_below, IsSort, AreSorts, IsBelow, IsAtOrBelow, IsFirstInCycle, IsMaximalLower, IsPassedBy, names_fresh};
 
 use crate::error::{NoMemory, SortFail};
-use crate::table::{at_or_above, cell, close, first_in_cycle, grown, raise, start};
+use crate::table::{at_or_above, cell, close, copied, first_in_cycle, grown, raise, start};
 use npa_list::List;
 use std::alloc::Global;
 use std::marker::Model;
@@ -79,6 +79,18 @@ impl Sorts {
             declared: 0,
             pairs: List::new(alloc),
             below: start(alloc, 0)?,
+        })
+    }
+
+    /// The same order. It takes memory for its pairs and, for each two of its sorts, for whether
+    /// the one is below the other.
+    pub fn copy(&self, alloc: Global) -> Result<Sorts, NoMemory>
+        ensures { IfOk result (λ copy. copy ≡ self.now) }
+    {
+        Ok(Sorts {
+            declared: self.declared,
+            pairs: List::from_slice(alloc, self.pairs.as_slice())?,
+            below: copied(alloc, &self.below)?,
         })
     }
 

@@ -93,6 +93,17 @@ pub(crate) fn grown(alloc: Global, table: &[Vec<bool>]) -> Result<Vec<Vec<bool>>
     Ok(grown)
 }
 
+// A table with the same rows.
+pub(crate) fn copied(alloc: Global, table: &[Vec<bool>]) -> Result<Vec<Vec<bool>>, NoMemory>
+    ensures { IfOk result (λ copied. rows_of copied.items ≡ rows_of table.now) }
+{
+    let mut copied = Vec::with_capacity(alloc, table.len())?;
+    for row in table {
+        copied.push(Vec::from_slice(alloc, row)?)?;
+    }
+    Ok(copied)
+}
+
 // A row with one more entry, without a mark.
 fn longer(alloc: Global, row: &[bool]) -> Result<Vec<bool>, NoMemory>
     ensures { IfOk result (λ longer. longer.items ≡ row.now ++ false ∷ []) }

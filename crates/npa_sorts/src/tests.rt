@@ -1,5 +1,6 @@
 use super::*;
 use npa_list::List;
+use std::alloc::Global;
 
 #[test]
 fn orders_sorts(rt: HostRuntime) -> Result<(), SortFail> {
@@ -44,5 +45,20 @@ fn grows_an_order(rt: HostRuntime) -> Result<(), NoMemory> {
     sorts.put_below(alloc, 3, 4)?;
     assert!(&rt; sorts.le(2, 4) && sorts.le(4, MSG) && !sorts.le(4, 2));
     assert!(&rt; sorts.pairs().as_slice() == [(2, 3), (3, 4)].as_slice());
+    Ok(())
+}
+
+// The order of two declared sorts, of which the first is below the second.
+fn two_sorts(alloc: Global) -> Result<Sorts, SortFail> {
+    let pairs = List::from_slice(alloc, &[(2, 3)])?;
+    Sorts::new(alloc, 2, &pairs)
+}
+
+#[test]
+fn copies_an_order(rt: HostRuntime) -> Result<(), SortFail> {
+    let sorts = two_sorts(rt.alloc())?;
+    let copy = sorts.copy(rt.alloc())?;
+    assert!(&rt; copy.declared() == 2 && copy.le(2, 3) && !copy.le(3, 2));
+    assert!(&rt; copy.pairs().as_slice() == [(2, 3)].as_slice());
     Ok(())
 }
