@@ -1,7 +1,7 @@
 -- The computed test of equality modulo commutativity is exact.
 use Rattle.std.proofs.Common.{◌≡◌, ℕ, Bool, true, false, ◌&&◌, ◌||◌, nat_eq, List, ◌∷◌, ◌↔◌, IsTrue, refl, sym, ◌∙◌, ap, subst, inl, inr, []}
 use Rattle.std.specs.Prelude.{⊤}
-use Rattle.std.proofs.lemmas.Bool.{eqb-true, eq-eqb, or_cases, and_parts, and_from}
+use Rattle.std.proofs.lemmas.Bool.{eqb-true, eq-eqb, or_cases, or_left, or_right, and_parts, and_from}
 use mathlib.Core.Bool.{beq}
 use Rattle.npa_term.specs.declared.term.Op.{Op}
 use Rattle.npa_term.specs.declared.term.Var.{Var as Variable}
@@ -14,7 +14,6 @@ use Rattle.npa_term.proofs.SameCases.{same_app, same_only_var, same_only_name}
 use Rattle.npa_match.specs.Computed.{is_same, same_op, turned}
 use Rattle.npa_match.specs.Search.{all_same}
 use Rattle.npa_match.proofs.Lists.{same_apps}
-use Rattle.npa_match.proofs.Orders.{or_left, or_right}
 
 -- cases on a term, with the arguments of an operator as a list
 each_nothing : (ts : List Term) → Each (λ t. ⊤) ts

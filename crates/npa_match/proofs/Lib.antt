@@ -6,6 +6,5 @@ pub mod Exactness
 pub mod Going
 pub mod Lists
 pub mod Matchers
-pub mod Orders
 pub mod Parts
 pub mod Waiting

@@ -4,7 +4,8 @@ use Rattle.std.specs.Prelude.{◌⊎◌, Contains, flat_map, unwrap_or}
 use Rattle.std.proofs.lemmas.Bool.{eqb-true, eq-eqb, and_parts, not-true, not-false, true≢false}
 use Rattle.std.proofs.lemmas.List.{append-nil}
 use Rattle.std.proofs.lemmas.List.Elements.{Contains-append_left, Contains-append_right, Contains-append_cases}
-use Rattle.npa_sorts.specs.Subsorts.{Subsorts, IsAtOrBelow}
+use Rattle.npa_sorts.specs.Subsorts.{Subsorts, IsAtOrBelow, at_or_below}
+use Rattle.npa_sorts.proofs.Climbs.{decides}
 use Rattle.npa_term.specs.declared.term.Op.{Op}
 use Rattle.npa_term.specs.declared.term.Var.{Var as Variable}
 use Rattle.npa_term.specs.declared.term.Term.{Term, Var, Name, App}
@@ -17,11 +18,10 @@ use Rattle.npa_term.proofs.Rows.{applied_app, variables_at}
 use Rattle.npa_term.proofs.SameCases.{same_app, same_only_var, same_only_name, app_injective, same_all_trans, same_from_arguments}
 use Rattle.npa_term.proofs.SameLaws.{same_sym, same_all_sym}
 use Rattle.npa_match.specs.Branches.{after_term, after_pairs, at_variable, forks}
-use Rattle.npa_match.specs.Computed.{is_same, is_at_or_below, same_op, turned}
+use Rattle.npa_match.specs.Computed.{is_same, same_op, turned}
 use Rattle.npa_match.specs.Matching.{image, least_sort, first_variables, IsPart, whole, inside, IsSecondPart}
 use Rattle.npa_match.proofs.Exactness.{Follows, IsEnd, IsExact, Some_of, Each, AllApart, exact_nothing, exact_never, exact_then, exact_either, exact_as}
 use Rattle.npa_match.proofs.Lists.{after_all, after_arguments, after_apps}
-use Rattle.npa_match.proofs.Orders.{at_or_below_exact}
 use Rattle.npa_match.proofs.Equality.{is_same_sound, is_same_complete, op_equal, op_itself, var_equal, var_itself, term_cases, turned_same}
 
 -- equal terms have one least sort
@@ -99,8 +99,8 @@ compared_sound o s v u t once e =
 bound_sound : (o : Subsorts) (s : List (Variable × Term)) (v : Variable) (u : Term) → BindsOnce s → value_of s v ≡ None →
     Each (IsEnd (OneVariable v) (Allowed o (λ w. IsPart w u)) (λ r. AtVariable u r v) s) (at_variable o s v u None)
 bound_sound o s v u once e =
-    elim (is_at_or_below o (least_sort u) v.sort) as
-    (λ b. is_at_or_below o (least_sort u) v.sort ≡ b → Each (IsEnd (OneVariable v) (Allowed o (λ w. IsPart w u)) (λ r. AtVariable u r v) s) (cond b (with_binding s v u ∷ []) [])) [
+    elim (at_or_below o (least_sort u) v.sort) as
+    (λ b. at_or_below o (least_sort u) v.sort ≡ b → Each (IsEnd (OneVariable v) (Allowed o (λ w. IsPart w u)) (λ r. AtVariable u r v) s) (cond b (with_binding s v u ∷ []) [])) [
       | true ↦ λ d. (
         record {
           once = binds_once-more s v u once e;
@@ -111,7 +111,7 @@ bound_sound o s v u once e =
             | inr is ↦ inr (
               subst (OneVariable v) is.0 (one v),
               subst (λ y. Allowed o (λ z. IsPart z u) y x) is.0
-                  (subst (Allowed o (λ z. IsPart z u) v) is.1 (whole, (at_or_below_exact o (least_sort u) v.sort).0 d)),
+                  (subst (Allowed o (λ z. IsPart z u) v) is.1 (whole, (decides o (least_sort u) v.sort).0 d)),
             )
           ];
           solves = λ r f. f v u (new_bound s v u e);
@@ -130,8 +130,8 @@ compared_complete o s r v u t e follows q =
 bound_complete : (o : Subsorts) (s r : List (Variable × Term)) (v : Variable) (u : Term) → Follows r s → AtVariable u r v →
     IsAtOrBelow o (least_sort (image r v)) v.sort → Some_of (Follows r) (at_variable o s v u None)
 bound_complete o s r v u follows q sort =
-    let yes : is_at_or_below o (least_sort u) v.sort ≡ true =
-    (at_or_below_exact o (least_sort u) v.sort).1 (subst (λ n. IsAtOrBelow o n v.sort) (same_sort (image r v) u q) sort) in
+    let yes : at_or_below o (least_sort u) v.sort ≡ true =
+    (decides o (least_sort u) v.sort).1 (subst (λ n. IsAtOrBelow o n v.sort) (same_sort (image r v) u q) sort) in
     let next : Follows r (with_binding s v u) = λ w x f. elim (new_cases s v u w x f) [
       | inl old ↦ follows w x old
       | inr is ↦ subst (λ y. Same (image r y) x) is.0 (subst (Same (image r v)) is.1 q)
@@ -150,7 +150,7 @@ exact_variable o v u = record {
   complete = λ s r follows q sorts. elim (value_of s v) as (λ x. value_of s v ≡ x → Some_of (Follows r) (at_variable o s v u x))
       [ Some t ↦ λ e. compared_complete o s r v u t e follows q | None ↦ λ e. bound_complete o s r v u follows q (sorts v (one v)) ] refl;
   apart = λ s once. elim (value_of s v) as (λ x. AllApart (at_variable o s v u x))
-      [ Some t ↦ at_most_one (is_same t u) s | None ↦ at_most_one (is_at_or_below o (least_sort u) v.sort) (with_binding s v u) ];
+      [ Some t ↦ at_most_one (is_same t u) s | None ↦ at_most_one (at_or_below o (least_sort u) v.sort) (with_binding s v u) ];
 }
 
 -- the problem of a term

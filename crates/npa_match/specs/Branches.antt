@@ -1,12 +1,12 @@
 use Rattle.std.specs.Prelude.{Bool, false, not, cond, nat_eq, ◌&&◌, Option, Some, None, List, ◌∷◌, ◌++◌, flat_map, []}
-use Rattle.npa_sorts.specs.Subsorts.{Subsorts}
+use Rattle.npa_sorts.specs.Subsorts.{Subsorts, at_or_below}
 use Rattle.npa_term.specs.declared.term.Op.{Op}
 use Rattle.npa_term.specs.declared.term.Var.{Var as Variable}
 use Rattle.npa_term.specs.declared.term.Term.{Term, Row_of-Term, end_of-Term, more_of-Term, items-the_row-Term}
 use Rattle.npa_term.specs.declared.term.Term.TheVariants.{Var, Name, App'}
 use Rattle.npa_term.specs.Bound.{value_of}
 use Rattle.npa_match.specs.Matching.{least_sort}
-use Rattle.npa_match.specs.Computed.{same_op, turned, is_same, is_at_or_below}
+use Rattle.npa_match.specs.Computed.{same_op, turned, is_same}
 
 -- The order in which matchers are answered: that of a search by branches, each of which carries
 -- the variables that it has bound so far.
@@ -28,7 +28,7 @@ abbrev pub at_variable : Subsorts → List (Variable × Term) → Variable → T
     List (List (Variable × Term))
 at_variable o s v u (Some t) = cond (is_same t u) (s ∷ []) []
 at_variable o s v u None =
-    cond (is_at_or_below o (least_sort u) v.sort) ((s ++ (v, u) ∷ []) ∷ []) []
+    cond (at_or_below o (least_sort u) v.sort) ((s ++ (v, u) ∷ []) ∷ []) []
 
 abbrev mutual
   -- The branches that a branch becomes by matching one term onto another, in order.

@@ -1,13 +1,12 @@
-use Rattle.std.specs.Prelude.{ℕ, ◌+◌, Bool, true, false, nat_eq, nat_le, nat_lt, ◌&&◌, ◌||◌, List, ◌∷◌, []}
+use Rattle.std.specs.Prelude.{ℕ, Bool, true, false, nat_eq, ◌&&◌, ◌||◌, List, ◌∷◌, []}
 use mathlib.Core.Bool.{beq}
-use Rattle.npa_sorts.specs.Subsorts.{Subsorts}
 use Rattle.npa_term.specs.declared.term.Op.{Op}
 use Rattle.npa_term.specs.declared.term.Term.{Term, Row_of-Term, end_of-Term, more_of-Term, items-the_row-Term}
 use Rattle.npa_term.specs.declared.term.Term.TheVariants.{Var, Name, App'}
 use Rattle.npa_term.specs.Bound.{same_var}
 
--- Tests that compute what the definitions of equality modulo commutativity and of the order of
--- sorts say. That they do is a law.
+-- Tests that compute what the definition of equality modulo commutativity says. That they do is a
+-- law.
 
 -- Whether two operators are the same: the same number, result and commutativity.
 abbrev pub same_op : Op → Op → Bool
@@ -40,16 +39,3 @@ abbrev mutual
   is_same_row end_of-Term (u ∷ us) = false
   is_same_row (more_of-Term t ts) [] = false
   is_same_row (more_of-Term t ts) (u ∷ us) = is_same t u && is_same_row ts us
-
--- Whether a sort is strictly below another by pairs of a lower and an upper sort, or as a declared
--- sort that is below `Msg`.
-abbrev pub is_below : List (ℕ × ℕ) → ℕ → ℕ → ℕ → Bool
-is_below [] declared s t = nat_eq t 0 && nat_le 2 s && nat_lt s (declared + 2)
-is_below (p ∷ ps) declared s t =
-    is_below ps declared s t
-    || ((nat_eq s p.0 || is_below ps declared s p.0)
-    && (nat_eq p.1 t || is_below ps declared p.1 t))
-
--- Whether a sort is at or below another.
-abbrev pub is_at_or_below : Subsorts → ℕ → ℕ → Bool
-is_at_or_below o s t = nat_eq s t || is_below o.pairs o.declared s t

@@ -2,7 +2,7 @@
 //! the laws, for the proofs of the crates above.
 
 ghost use Rattle.std.specs.Prelude.{◌≡◌, ◌↔◌, ℕ, List, Some, Contains, IsTrue};
-ghost use Rattle.npa_sorts.specs.Subsorts.{Subsorts, IsAtOrBelow};
+ghost use Rattle.npa_sorts.specs.Subsorts.{Subsorts, IsAtOrBelow, at_or_below};
 ghost use Rattle.npa_term.specs.declared.term.Op.{Op};
 ghost use Rattle.npa_term.specs.declared.term.Term.{Term};
 ghost use Rattle.npa_term.specs.declared.term.Var.{Var as Variable};
@@ -11,14 +11,13 @@ ghost use Rattle.npa_term.specs.Bound.{applied, value_of};
 ghost use Rattle.npa_term.specs.Canonical.{canonical};
 ghost use Rattle.npa_term.specs.Same.{Same};
 ghost use Rattle.npa_term.specs.Variables.{IsGround};
-ghost use Rattle.npa_match.specs.Computed.{is_same, is_at_or_below};
+ghost use Rattle.npa_match.specs.Computed.{is_same};
 ghost use Rattle.npa_match.specs.Matching.{AllSecond, IsMatcher, IsPart};
 
 /// The tests by which branches are defined say what the relations say.
 pub fn test_laws()
     ensures same { (t u : Term) → IsTrue (is_same t u) ↔ Same t u }
-    ensures below { (o : Subsorts) (s t : ℕ) → IsTrue (is_at_or_below o s t)
-        ↔ IsAtOrBelow o s t }
+    ensures below { (o : Subsorts) (s t : ℕ) → IsTrue (at_or_below o s t) ↔ IsAtOrBelow o s t }
 {}
 
 /// A part of a canonical term is canonical, one of a ground term is ground, and one of a term whose

@@ -5,7 +5,7 @@ ghost use Rattle.npa_term.specs.declared.term.Term.{Term, App};
 ghost use Rattle.npa_match.specs.Branches.{at_variable, branches, forks};
 ghost use Rattle.npa_match.specs.Search.{IsFork, bound_of, bound_pairs, ends_of, goal_pairs, outcome_ends, outcome_work, pairs_of, work};
 
-use crate::terms::{equals, is_under, sort_of};
+use crate::terms::{equals, sort_of};
 use npa_list::List;
 use npa_sorts::Sorts;
 use npa_term::{NoMemory, Op, Subst, Substs, Term, TermPairs, Var, copy};
@@ -199,7 +199,7 @@ fn bind<'a>(sorts: &Sorts, bound: &mut Bound<'a>, v: Var, u: &'a Term) -> Result
     match value(bound.as_slice(), v) {
         Some(t) => Ok(equals(t, u)),
         None => {
-            if !is_under(sorts, sort_of(u), v.sort) {
+            if !sorts.le(sort_of(u), v.sort) {
                 return Ok(false);
             }
             bound.push((v, u))?;

@@ -1,9 +1,9 @@
 ghost use Rattle.std.specs.Prelude.{◌≡◌, ◌&&◌, ◌||◌, false, [], ◌∷◌};
-ghost use Rattle.npa_match.specs.Computed.{is_same, is_at_or_below, turned};
+ghost use Rattle.npa_match.specs.Computed.{is_same, turned};
 ghost use Rattle.npa_match.specs.Matching.{least_sort};
 ghost use Rattle.npa_match.specs.Search.{all_same};
 
-use npa_sorts::{FRESH, Sorts};
+use npa_sorts::FRESH;
 use npa_term::{Op, Term};
 
 /// Whether two terms are equal modulo commutativity. It takes no memory.
@@ -77,16 +77,4 @@ pub(crate) fn sort_of(t: &Term) -> u16
         Term::Name(_) => FRESH,
         Term::App(op, _) => op.result,
     }
-}
-
-/// Whether a number is that of a sort at or below another. Numbers of no sort are below none.
-pub(crate) fn is_under(sorts: &Sorts, s: u16, t: u16) -> bool
-    ensures { result ≡ is_at_or_below sorts.now s t }
-{
-    let count = sorts.declared() + 2;
-    let _pairs = sorts.pairs();
-    if s < count && t < count {
-        return sorts.le(s, t);
-    }
-    s == t
 }

@@ -1,4 +1,4 @@
-use Rattle.npa_match.proofs.Orders.{at_or_below_exact}
+use Rattle.npa_sorts.proofs.Climbs.{decides}
 use Rattle.npa_match.proofs.Equality.{is_same_exact}
 use Rattle.npa_match.proofs.laws.test_laws.Goals as goal
 
@@ -6,4 +6,4 @@ pub returns-clause-same : goal.returns-clause-same
 returns-clause-same c = is_same_exact
 
 pub returns-clause-below : goal.returns-clause-below
-returns-clause-below c = at_or_below_exact
+returns-clause-below c = decides
