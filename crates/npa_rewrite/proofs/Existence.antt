@@ -49,7 +49,7 @@ told : (th : Theory) (t : Term) (o : Option Term) → Tells th th.equations t o 
 told th t None rest = λ e s c q p. rest e c s (matches_from th.sig.sorts e.left t s q p)
 told th t (Some u) step = step
 
-root_told : (th : Theory) (t : Term) → IsRootOutcome th t (outcome_of t (at_root th.sig.sorts th.equations t))
+pub root_told : (th : Theory) (t : Term) → IsRootOutcome th t (outcome_of t (at_root th.sig.sorts th.equations t))
 root_told th t = told th t (at_root th.sig.sorts th.equations t) (tells th th.equations t (All-contains_itself th.equations))
 
 -- the same of the arguments of an operator, behind others

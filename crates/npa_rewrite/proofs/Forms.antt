@@ -1,8 +1,6 @@
 -- Normal forms are made from those of the arguments.
-use Rattle.std.proofs.Common.{◌≡◌, ℕ, List, [], ◌∷◌, ◌++◌, ◌+◌, ◌<◌, ◌≤◌, append_assoc, length, take, get_or, Option, map, refl, sym, ◌∙◌, ap, subst}
+use Rattle.std.proofs.Common.{◌≡◌, List, [], ◌∷◌, ◌++◌, append_assoc, map, refl, sym, ◌∙◌, ap, subst}
 use Rattle.std.specs.List.{AllZip}
-use Rattle.std.proofs.lemmas.List.{take_all}
-use Rattle.std.proofs.lemmas.List.Elements.{AllZip-push}
 use Rattle.npa_term.specs.declared.term.Op.{Op}
 use Rattle.npa_term.specs.declared.term.Term.{Term, App}
 use Rattle.npa_term.specs.Canonical.{canonical, ordered}
@@ -10,14 +8,11 @@ use Rattle.npa_term.proofs.CanonicalLaws.{by_order, canonical_same, canonical-ca
 use Rattle.npa_term.proofs.Induction.{Each}
 use Rattle.npa_term.proofs.Rows.{canonical_app}
 use Rattle.npa_term.proofs.SameCases.{app_injective}
-use Rattle.npa_rewrite.specs.declared.step.Outcome.{Outcome}
-use Rattle.npa_rewrite.specs.declared.step.Outcome.TheVariants.{Made, Normal}
 use Rattle.npa_rewrite.specs.declared.theory.Theory.{Theory}
 use Rattle.npa_rewrite.specs.Rewriting.{IsNormal, AllCancel, Steps, none, more}
-use Rattle.npa_rewrite.specs.Stepping.{HasNoMatch, IsRootStep, IsRootOutcome, outcome_of}
+use Rattle.npa_rewrite.specs.Stepping.{HasNoMatch, IsRootStep}
 use Rattle.npa_rewrite.proofs.Parts.{HasArguments, normal_smaller, root_part, root_rewrites}
 use Rattle.npa_rewrite.proofs.Under.{steps_in, steps_after, normal_app, normal_same}
-use Rattle.npa_rewrite.proofs.Walk.{normal_is, taken_more}
 
 -- a term with its normal form
 pub record IsForm (th : Theory) (t u : Term) : Type 0 where
@@ -51,10 +46,10 @@ forms_normal th [] (u ∷ us) forms = absurd forms
 forms_normal th (t ∷ ts) [] forms = absurd forms
 forms_normal th (t ∷ ts) (u ∷ us) forms = (forms.0.normal, forms_normal th ts us forms.1)
 
-ordered_normal : (th : Theory) (op : Op) (us : List Term) → Each (IsNormal th) us → Each (IsNormal th) (ordered op us)
-ordered_normal th op us each =
-    by_order (Each (IsNormal th)) op us each
-    (λ t u e swaps above. let two : Each (IsNormal th) (t ∷ u ∷ []) = subst (Each (IsNormal th)) e each in (two.1.0, (two.0, tt)))
+pub ordered_each : (P : Term → Type 0) (op : Op) (us : List Term) → Each P us → Each P (ordered op us)
+ordered_each P op us each =
+    by_order (Each P) op us each
+    (λ t u e swaps above. let two : Each P (t ∷ u ∷ []) = subst (Each P) e each in (two.1.0, (two.0, tt)))
 
 steps_all : (th : Theory) (op : Op) (before ts us : List Term) → AreForms th ts us →
     Steps th (canonical (App op (before ++ map canonical ts))) (canonical (App op (before ++ us)))
@@ -88,13 +83,13 @@ module _ (th : Theory) (t : Term) (op : Op) (ts us : List Term) (is : t ≡ App 
 
   with_arguments : HasArguments (IsNormal th) with_forms
   with_arguments f vs e =
-      subst (Each (IsNormal th)) (app_injective op f (ordered op us) vs e).1 (ordered_normal th op us (forms_normal th ts us forms))
+      subst (Each (IsNormal th)) (app_injective op f (ordered op us) vs e).1 (ordered_each (IsNormal th) op us (forms_normal th ts us forms))
 
   -- where no equation matches it, it is the normal form
   pub form_unmatched : HasNoMatch th with_forms → IsForm th t with_forms
   form_unmatched unmatched = record {
     settled = with_canonical;
-    normal = normal_app th op (ordered op us) (ordered_normal th op us (forms_normal th ts us forms)) unmatched;
+    normal = normal_app th op (ordered op us) (ordered_each (IsNormal th) op us (forms_normal th ts us forms)) unmatched;
     reached = with_reached;
   }
 
@@ -108,27 +103,3 @@ module _ (th : Theory) (t : Term) (op : Op) (ts us : List Term) (is : t ≡ App 
         normal = subst (IsNormal th) (sym part.1) (normal_same th part.0 (canonical part.0) (canonical_same part.0) normal);
         reached = more with_forms v with_reached (root_rewrites th with_forms v step);
       }
-
--- the same of an outcome at the root of the sorted arguments
-module _ (th : Theory) (t : Term) (op : Op) (ts us items sorted : List Term) (i : ℕ) (o : Outcome) (is : t ≡ App op ts) (same : items ≡ ts) (end : length items ≤ i)
-    (forms : AreForms th (take i items) us) (sort : sorted ≡ ordered op us) (cancel : AllCancel th) (root : IsRootOutcome th (App op sorted) o) where
-  all_forms : AreForms th ts us
-  all_forms = subst (λ xs. AreForms th xs us) (take_all i items end ∙ same) forms
-
-  sorted_root : IsRootOutcome th (App op (ordered op us)) o
-  sorted_root = subst (λ vs. IsRootOutcome th (App op vs) o) sort root
-
-  pub form_made : (v : Term) → o ≡ Made v → IsForm th t v
-  form_made v made = form_stepped th t op ts us is all_forms v cancel (subst (IsRootOutcome th (App op (ordered op us))) made sorted_root)
-
-  pub form_kept : (v : Term) (found : Option Term) → o ≡ Normal v → o ≡ outcome_of (App op sorted) found → IsForm th t v
-  form_kept v found kept value =
-      let back : v ≡ App op (ordered op us) = (normal_is (App op sorted) v found (sym kept ∙ value)).0 ∙ ap (App op) sort in
-      subst (IsForm th t) (sym back) (form_unmatched th t op ts us is all_forms (subst (IsRootOutcome th (App op (ordered op us))) kept sorted_root))
-
-pub forms_more : (th : Theory) (items us new : List Term) (i : ℕ) (a b : Term) → i < length items → a ≡ get_or items i a → AreForms th (take i items) us → new ≡ us ++ b ∷ [] →
-    canonical b ≡ b → IsNormal th b → Steps th (canonical a) b → AreForms th (take (i + 1) items) new
-forms_more th items us new i a b small at forms pushed settled normal reached =
-    let form : IsForm th a b = record { settled = settled; normal = normal; reached = reached } in
-    subst (λ xs. AreForms th xs new) (sym (taken_more items i a small at))
-    (subst (AreForms th (take i items ++ a ∷ [])) (sym pushed) (AllZip-push (IsForm th) (take i items) us a b forms form))

@@ -1,8 +1,10 @@
 pub mod Existence
 pub mod Forms
 pub mod Kept
+pub mod Normalized
 pub mod Occurrences
 pub mod Parts
+pub mod Reducing
 pub mod Root
 pub mod Sorted
 pub mod Under

@@ -1,12 +1,13 @@
--- The one step that is made of those that a term allows.
-use Rattle.std.specs.Prelude.{List, [], ◌∷◌, Option, Some, None}
+-- The one step that is made of those that a term allows, and the normal form that is made of it: the
+-- leftmost innermost strategy (Baader, Nipkow 1998, on strategies).
+use Rattle.std.specs.Prelude.{◌≡◌, List, [], ◌∷◌, Option, Some, None, unwrap_or}
 use Rattle.std.specs.Option.{option_map}
 use Rattle.npa_sorts.specs.Subsorts.{Subsorts}
 use Rattle.npa_term.specs.declared.term.Var.{Var as Variable}
 use Rattle.npa_term.specs.declared.term.Term.{Term, Row_of-Term, end_of-Term, more_of-Term, items-the_row-Term}
 use Rattle.npa_term.specs.declared.term.Term.TheVariants.{Var, Name, App, App'}
 use Rattle.npa_term.specs.Bound.{applied}
-use Rattle.npa_term.specs.Canonical.{canonical}
+use Rattle.npa_term.specs.Canonical.{canonical, ordered}
 use Rattle.npa_match.specs.Branches.{branches, first_of}
 use Rattle.npa_sig.specs.declared.protocol.Equation.{Equation}
 use Rattle.npa_rewrite.specs.declared.theory.Theory.{Theory}
@@ -46,3 +47,24 @@ abbrev mutual
 abbrev pub reduced : Theory → Term → Option Term
 reduced th t =
     option_map canonical (innermost (at_root th.sig.sorts th.equations) (canonical t))
+
+-- Any number of these steps, one after another, none included.
+pub data Reductions (th : Theory) : Term → Term → Type 0 where
+  none : (t : Term) → Reductions th t t
+  more : (t u v : Term) → reduced th t ≡ Some u → Reductions th u v → Reductions th t v
+
+-- A term after the step that the first equation that matches it makes of it, or as it is.
+abbrev pub rooted : Theory → Term → Term
+rooted th t = unwrap_or (at_root th.sig.sorts th.equations t) t
+
+abbrev mutual
+  -- The normal form of a term, from the leaves up: a step at the root of an application of normal
+  -- arguments, where there is one. Where all equations cancel, that leaves a part of one of them.
+  pub normalized : Theory → Term → Term
+  normalized th (Var v) = Var v
+  normalized th (Name n) = Name n
+  normalized th (App' op n args) = rooted th (App op (ordered op (normalized_row th args)))
+
+  pub normalized_row : {n : _} → Theory → Row_of-Term n → List Term
+  normalized_row th end_of-Term = []
+  normalized_row th (more_of-Term t rest) = normalized th t ∷ normalized_row th rest

@@ -67,6 +67,11 @@ IsConvergent th =
     (t : Term) → IsTrue (well_sorted th.sig t) →
     (u : Term) × IsNormalFormOf th t u × ((v : Term) → IsNormalFormOf th t v → v ≡ u)
 
+-- A function that has for each well-sorted term its normal form.
+abbrev pub GivesNormalForms : Theory → (Term → Term) → Type 0
+GivesNormalForms th nf =
+    (t : Term) → IsTrue (well_sorted th.sig t) → IsLeastNormalForm th t (nf t)
+
 -- An equation that cancels: its left side isn't a variable, and its right side is a variable that
 -- occurs there, of a sort at or below the left side's.
 pub record IsCancelling (o : Subsorts) (e : Equation) : Type 0 where

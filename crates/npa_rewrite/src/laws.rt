@@ -1,11 +1,12 @@
 //! Laws of rewriting. Each function does nothing: its clauses are the laws, for the proofs of the
 //! crates above.
 
-ghost use Rattle.std.specs.Prelude.{◌≡◌, ◌<◌, IsTrue, Contains, None, List, [], ◌∷◌, ◌++◌};
+ghost use Rattle.std.specs.Prelude.{◌≡◌, ◌↔◌, ◌<◌, ℕ, IsTrue, Contains, None, List, [], ◌∷◌, ◌++◌};
 ghost use Rattle.npa_sorts.specs.Subsorts.{IsAtOrBelow};
 ghost use Rattle.npa_term.specs.declared.term.Op.{Op};
 ghost use Rattle.npa_term.specs.declared.term.Term.{Term, App};
 ghost use Rattle.npa_term.specs.declared.term.Var.{Var as Variable};
+ghost use Rattle.npa_term.specs.Agreeing.{Agrees};
 ghost use Rattle.npa_term.specs.Bound.{applied};
 ghost use Rattle.npa_term.specs.Canonical.{canonical};
 ghost use Rattle.npa_term.specs.Same.{Same};
@@ -15,7 +16,8 @@ ghost use Rattle.npa_match.specs.Matching.{IsPart, image, least_sort};
 ghost use Rattle.npa_sig.specs.Signature.{Signature, first_op_fault};
 ghost use Rattle.npa_sig.specs.Sorting.{well_sorted};
 ghost use Rattle.npa_rewrite.specs.declared.theory.Theory.{Theory};
-ghost use Rattle.npa_rewrite.specs.Rewriting.{AllCancel, IsConvergent, IsLeastNormalForm, IsNormal, IsNormalFormOf, PairsCommute, Rewrites, Steps};
+ghost use Rattle.npa_rewrite.specs.Innermost.{Reductions, normalized};
+ghost use Rattle.npa_rewrite.specs.Rewriting.{AllCancel, GivesNormalForms, IsConvergent, IsLeastNormalForm, IsNormal, IsNormalFormOf, PairsCommute, Rewrites, Steps};
 
 /// Terms that are equal modulo commutativity make the same steps, a step of an argument is one of
 /// the application, and what a step makes is canonical. Where all equations cancel, it is smaller
@@ -70,4 +72,23 @@ pub fn convergence_laws()
         → IsNormalFormOf th t u → IsNormalFormOf th t v → u ≡ v }
     ensures least { (th : Theory) (t u : Term) → IsConvergent th
         → IsTrue (well_sorted th.sig t) → IsNormalFormOf th t u → IsLeastNormalForm th t u }
+{}
+
+/// The normal form that is made from the leaves up is one, and canonical, where all equations
+/// cancel; a term is normal exactly where it is the canonical form. Where no two operators of the
+/// term have one number, steps at the first innermost place reach it. In a convergent theory it is
+/// the least one, so there is a function that has for each well-sorted term its normal form, and
+/// each such function has this one.
+pub fn normalizing_laws()
+    ensures form { (th : Theory) (t : Term) → AllCancel th → IsNormalFormOf th t (normalized th t) }
+    ensures canonical { (th : Theory) (t : Term) → AllCancel th
+        → canonical (normalized th t) ≡ normalized th t }
+    ensures normal { (th : Theory) (t : Term) → AllCancel th
+        → IsNormal th t ↔ (normalized th t ≡ canonical t) }
+    ensures reductions { (th : Theory) (decl : ℕ → Op) (t : Term) → AllCancel th
+        → Agrees decl t → Reductions th (canonical t) (normalized th t) }
+    ensures gives { (th : Theory) → AllCancel th → IsConvergent th
+        → GivesNormalForms th (normalized th) }
+    ensures only { (th : Theory) (nf : Term → Term) (t : Term) → AllCancel th → IsConvergent th
+        → GivesNormalForms th nf → IsTrue (well_sorted th.sig t) → nf t ≡ normalized th t }
 {}

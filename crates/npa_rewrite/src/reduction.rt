@@ -1,6 +1,8 @@
-ghost use Rattle.std.specs.Prelude.{◌≡◌, ◌↔◌, None, IsTrue, IfOk, IfSome};
+ghost use Rattle.std.specs.Prelude.{◌≡◌, ◌↔◌, ℕ, None, IsTrue, IfOk, IfSome};
+ghost use Rattle.npa_term.specs.declared.term.Op.{Op};
+ghost use Rattle.npa_term.specs.Agreeing.{Agrees};
 ghost use Rattle.npa_term.specs.Canonical.{canonical};
-ghost use Rattle.npa_rewrite.specs.Innermost.{reduced};
+ghost use Rattle.npa_rewrite.specs.Innermost.{Reductions, normalized, reduced};
 ghost use Rattle.npa_rewrite.specs.Rewriting.{AllCancel, IsNormal, Rewrites, Steps};
 
 use crate::step::{Outcome, root_step, step};
@@ -35,14 +37,18 @@ pub fn is_normal(alloc: Global, th: &Theory, t: &Term) -> Result<bool, NoMemory>
     }
 }
 
-/// A normal form of the term: canonical, normal, and reached from the canonical form by steps.
+/// A normal form of the term: canonical, normal, and reached from the canonical form by steps. Where
+/// no two operators of the term have one number, it is reached by steps of `reduce`.
 /// It is made in one pass from the leaves up: a step at the root of a term with normal arguments
 /// leaves a part of one of them, which is normal.
 pub fn normal_form(alloc: Global, th: &Theory, t: &Term) -> Result<Term, NoMemory>
     requires cancelling { AllCancel th.now }
+    ensures value { IfOk result (λ u. u ≡ normalized th.now t.now) }
     ensures canonical { IfOk result (λ u. canonical u ≡ u) }
     ensures normal { IfOk result (λ u. IsNormal th.now u) }
     ensures reached { IfOk result (λ u. Steps th.now (canonical t.now) u) }
+    ensures by_reduce { (decl : ℕ → Op) → Agrees decl t.now
+        → IfOk result (λ u. Reductions th.now (canonical t.now) u) }
 {
     match t {
         Term::Var(v) => Ok(Term::Var(*v)),

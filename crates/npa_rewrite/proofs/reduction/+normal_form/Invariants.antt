@@ -1,6 +1,6 @@
-use Rattle.std.proofs.Common.{take}
-use Rattle.npa_rewrite.proofs.Forms.{AreForms}
+use Rattle.std.proofs.Common.{◌≡◌, map, take}
+use Rattle.npa_rewrite.specs.Innermost.{normalized}
 use Rattle.npa_rewrite.proofs.reduction.+normal_form.Given as goal
 
 abbrev pub invariant-loop-arg : goal.invariant-loop-arg
-invariant-loop-arg l = AreForms l.th (take l.arg-index l.arg-items) l.made.items
+invariant-loop-arg l = l.made.items ≡ map (normalized l.th) (take l.arg-index l.arg-items)
