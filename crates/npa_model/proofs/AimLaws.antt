@@ -42,8 +42,8 @@ module _ (nf : Term → Term) (protocol : Protocol) (run : Run) where
   same_sent : {ts us : List Term} → IsRun nf protocol run ts → IsRun nf protocol run us → ts ≡ us
   same_sent r s = one_list nf protocol.strands run.instances r.executes s.executes refl
 
-  faultless : {why : Cause} → AreInstances nf protocol.sig protocol.strands run.instances → start_fault protocol.sig protocol.strands run.instances ≡ Some why → ⊥
-  faultless {why} are fault = none-some why (sym (instances_start protocol.sig protocol.strands run.instances nf are) ∙ fault)
+  faultless : {why : Cause} → AreInstances nf protocol.sig protocol.strands run.instances → start_fault nf protocol.sig protocol.strands run.instances ≡ Some why → ⊥
+  faultless {why} are fault = none-some why (sym (instances_start nf protocol.sig protocol.strands run.instances are) ∙ fault)
 
   -- what is a run doesn't break
   pub runs_or_breaks : {ts : List Term} {j : ℕ} {why : Cause} → IsRun nf protocol run ts → Breaks nf protocol run j why → ⊥

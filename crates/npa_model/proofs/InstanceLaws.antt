@@ -1,9 +1,10 @@
 -- The faults of instances are found exactly where instances are none.
-use Rattle.std.proofs.Common.{◌≡◌, ℕ, zero, suc, ◌+◌, Bool, true, false, ◌==◌, ◌↔◌, List, [], ◌∷◌, ◌++◌, Option, None, Some, refl, ap, sym, ◌∙◌, subst, map, length, cond, slice_get, nat_eq, arith}
+use Rattle.std.proofs.Common.{◌≡◌, ℕ, zero, suc, ◌+◌, Bool, true, false, ◌==◌, ◌↔◌, List, [], ◌∷◌, ◌++◌, Option, None, Some, refl, ap, sym, ◌∙◌, subst, map, length, cond, slice_get, nat_eq, Contains, ⊎_elim, arith}
 use Rattle.std.specs.Option.{option_map}
 use Rattle.std.specs.List.{list_any}
 use Rattle.std.proofs.lemmas.Bool.{and_parts, and_from, or_parts, or_from, eqb-true, eqb-false, eq-eqb, ne_eqb}
 use Rattle.std.proofs.lemmas.Option.{same_Some}
+use Rattle.std.proofs.lemmas.List.Elements.{Contains-append_cases, Contains-append_left, Contains-append_right}
 use Rattle.std.proofs.lemmas.List.Folds.{list_any-append}
 use Rattle.npa_term.specs.declared.term.Term.{Term}
 use Rattle.npa_term.specs.Canonical.{canonical}
@@ -13,7 +14,10 @@ use Rattle.npa_sig.specs.Sorting.{sort_of, is_below, all_below}
 use Rattle.npa_model.specs.declared.run.Instance.{Instance}
 use Rattle.npa_model.specs.declared.run.Cause.{Cause}
 use Rattle.npa_model.specs.declared.run.Cause.TheVariants as cause
-use Rattle.npa_model.specs.Instances.{param_sorts, AreInstances, AreGroundTerms, AreApart, fresh_names, sort_fault, strand_fault, instance_fault, or_else, first_fault, first_again, start_fault}
+use Rattle.npa_model.specs.Normal.{is_normal_by}
+use Rattle.npa_model.specs.Instances.{param_sorts, AreInstances, AreGroundTerms, AreApart, fresh_names, sort_fault, normal_fault, strand_fault, instance_fault, or_else, first_fault, first_again, start_fault}
+use Rattle.npa_rewrite.proofs.Parts.{only_member}
+use Rattle.npa_model.proofs.Normality.{normal_is, is_normal_own}
 
 cond_none : (b : Bool) (o : Option Cause) (c : Cause) → cond b o (Some c) ≡ None → (b ≡ true) × (o ≡ None)
 cond_none true o c e = (refl, e)
@@ -23,7 +27,7 @@ both_none : (o p : Option Cause) → or_else o p ≡ None → (o ≡ None) × (p
 both_none None p e = (refl, e)
 both_none (Some c) p e = cc
 
-module _ (sig : Signature) (strands : List Strand) where
+module _ (nf : Term → Term) (sig : Signature) (strands : List Strand) where
   are_below : (k p : ℕ) (args : List Term) (sorts : List ℕ) → length args ≡ length sorts → sort_fault sig k p args sorts ≡ None → all_below sig (map sort_of args) sorts ≡ true
   are_below k p [] [] l e = refl
   are_below k p [] (s ∷ sorts) l e = absurd (omega arith)
@@ -46,43 +50,59 @@ module _ (sig : Signature) (strands : List Strand) where
       let both = and_parts (is_below sig (sort_of t) s) (all_below sig (map sort_of args) sorts) e in
       ap (λ b. cond b (sort_fault sig k (p + 1) args sorts) (Some (cause.Sort k p))) both.0 ∙ no_sort_fault k (p + 1) args sorts both.1
 
-  -- the instance is of a strand and its terms have the sorts of the parameters
+  are_normal : (k p : ℕ) (args : List Term) → normal_fault nf k p args ≡ None → (t : Term) → Contains args t → nf t ≡ canonical t
+  are_normal k p [] e t has = absurd (omega (arith, has.1))
+  are_normal k p (u ∷ args) e t has =
+      let both = cond_none (is_normal_by nf u) (normal_fault nf k (p + 1) args) (cause.Normal k p) e in
+      ⊎_elim (λ first. subst (λ v. nf v ≡ canonical v) (only_member u t first) (normal_is nf u both.0)) (λ rest. are_normal k (p + 1) args both.1 t rest) (Contains-append_cases (u ∷ []) args t has)
+
+  no_normal_fault : (k p : ℕ) (args : List Term) → ((t : Term) → Contains args t → nf t ≡ canonical t) → normal_fault nf k p args ≡ None
+  no_normal_fault k p [] each = refl
+  no_normal_fault k p (u ∷ args) each =
+      ap (λ b. cond b (normal_fault nf k (p + 1) args) (Some (cause.Normal k p))) (is_normal_own nf u (each u (Contains-append_left (u ∷ []) args u (0, omega arith, refl))))
+      ∙ no_normal_fault k (p + 1) args (λ t has. each t (Contains-append_right (u ∷ []) args t has))
+
+  -- the instance is of a strand, and its terms have the sorts of the parameters and are normal
   record Fits (instance : Instance) : Type 0 where
     strand : Strand
     there : slice_get strands instance.strand ≡ Some strand
     sorts : all_below sig (map sort_of instance.args) (param_sorts strand) ≡ true
+    normal : (t : Term) → Contains instance.args t → nf t ≡ canonical t
 
-  fits : (k : ℕ) (instance : Instance) → instance_fault sig strands k instance ≡ None → Fits instance
+  fits : (k : ℕ) (instance : Instance) → instance_fault nf sig strands k instance ≡ None → Fits instance
   fits k instance e = by (slice_get strands instance.strand) refl e
     where
-      by : (o : Option Strand) → slice_get strands instance.strand ≡ o → strand_fault sig k o instance.args ≡ None → Fits instance
+      by : (o : Option Strand) → slice_get strands instance.strand ≡ o → strand_fault nf sig k o instance.args ≡ None → Fits instance
       by None at f = cc
       by (Some strand) at f =
-          let both = cond_none (length instance.args == length (param_sorts strand)) (sort_fault sig k 0 instance.args (param_sorts strand)) (cause.Params k) f in
+          let even = cond_none (length instance.args == length (param_sorts strand)) (or_else (sort_fault sig k 0 instance.args (param_sorts strand)) (normal_fault nf k 0 instance.args)) (cause.Params k) f in
+          let both = both_none (sort_fault sig k 0 instance.args (param_sorts strand)) (normal_fault nf k 0 instance.args) even.1 in
           record {
             strand = strand;
             there = at;
-            sorts = are_below k 0 instance.args (param_sorts strand) (eqb-true (length instance.args) (length (param_sorts strand)) both.0) both.1;
+            sorts = are_below k 0 instance.args (param_sorts strand) (eqb-true (length instance.args) (length (param_sorts strand)) even.0) both.0;
+            normal = are_normal k 0 instance.args both.1;
           }
 
-  no_instance_fault : (k : ℕ) (instance : Instance) → Fits instance → instance_fault sig strands k instance ≡ None
+  no_instance_fault : (k : ℕ) (instance : Instance) → Fits instance → instance_fault nf sig strands k instance ≡ None
   no_instance_fault k instance f =
       let params : List ℕ = param_sorts f.strand in
-      ap (λ (o : Option Strand). strand_fault sig k o instance.args) f.there
-      ∙ ap (λ b. cond b (sort_fault sig k 0 instance.args params) (Some (cause.Params k))) (eq-eqb (length instance.args) (length params) (are_even instance.args params f.sorts))
-      ∙ no_sort_fault k 0 instance.args params f.sorts
+      ap (λ (o : Option Strand). strand_fault nf sig k o instance.args) f.there
+      ∙ ap (λ b. cond b (or_else (sort_fault sig k 0 instance.args params) (normal_fault nf k 0 instance.args)) (Some (cause.Params k))) (eq-eqb (length instance.args) (length params) (are_even instance.args params f.sorts))
+      ∙ ap (λ o. or_else o (normal_fault nf k 0 instance.args)) (no_sort_fault k 0 instance.args params f.sorts)
+      ∙ no_normal_fault k 0 instance.args f.normal
 
-  each_fits : (k : ℕ) (instances : List Instance) → first_fault sig strands k instances ≡ None → (n : ℕ) (instance : Instance) → slice_get instances n ≡ Some instance → Fits instance
+  each_fits : (k : ℕ) (instances : List Instance) → first_fault nf sig strands k instances ≡ None → (n : ℕ) (instance : Instance) → slice_get instances n ≡ Some instance → Fits instance
   each_fits k [] e n instance at = cc
   each_fits k (i ∷ is) e zero instance at =
-      subst (λ (x : Instance). Fits x) (same_Some i instance at) (fits k i (both_none (instance_fault sig strands k i) (first_fault sig strands (k + 1) is) e).0)
+      subst (λ (x : Instance). Fits x) (same_Some i instance at) (fits k i (both_none (instance_fault nf sig strands k i) (first_fault nf sig strands (k + 1) is) e).0)
   each_fits k (i ∷ is) e (suc n) instance at =
-      each_fits (k + 1) is (both_none (instance_fault sig strands k i) (first_fault sig strands (k + 1) is) e).1 n instance at
+      each_fits (k + 1) is (both_none (instance_fault nf sig strands k i) (first_fault nf sig strands (k + 1) is) e).1 n instance at
 
-  no_fault : (k : ℕ) (instances : List Instance) → ((n : ℕ) (instance : Instance) → slice_get instances n ≡ Some instance → Fits instance) → first_fault sig strands k instances ≡ None
+  no_fault : (k : ℕ) (instances : List Instance) → ((n : ℕ) (instance : Instance) → slice_get instances n ≡ Some instance → Fits instance) → first_fault nf sig strands k instances ≡ None
   no_fault k [] each = refl
   no_fault k (i ∷ is) each =
-      ap (λ o. or_else o (first_fault sig strands (k + 1) is)) (no_instance_fault k i (each 0 i refl)) ∙ no_fault (k + 1) is (λ n. each (suc n))
+      ap (λ o. or_else o (first_fault nf sig strands (k + 1) is)) (no_instance_fault k i (each 0 i refl)) ∙ no_fault (k + 1) is (λ n. each (suc n))
 
 -- none of the names was seen
 abbrev AreNew : List ℕ → List ℕ → Type 0
@@ -142,24 +162,24 @@ never_twice : (o : Option ℕ) → option_map cause.Twice o ≡ None → o ≡ N
 never_twice None e = refl
 never_twice (Some n) e = cc
 
-module _ (sig : Signature) (strands : List Strand) (instances : List Instance) where
+module _ (nf : Term → Term) (sig : Signature) (strands : List Strand) (instances : List Instance) where
   -- instances have no fault
-  pub instances_start : (nf : Term → Term) → AreInstances nf sig strands instances → start_fault sig strands instances ≡ None
-  instances_start nf are =
+  pub instances_start : AreInstances nf sig strands instances → start_fault nf sig strands instances ≡ None
+  instances_start are =
       ap (λ o. or_else o (option_map cause.Twice (first_again [] (fresh_names strands instances))))
-      (no_fault sig strands 0 instances (λ n instance at. let is = are.each n instance at in record { strand = is.strand; there = is.there; sorts = is.sorts }))
+      (no_fault nf sig strands 0 instances (λ n instance at. let is = are.each n instance at in record { strand = is.strand; there = is.there; sorts = is.sorts; normal = λ t has. (is.normal t has).normal }))
       ∙ ap (option_map cause.Twice) ((apart_exactly (fresh_names strands instances)).0 are.apart)
 
   -- without a fault they are instances, where their terms are ground
-  pub starting_instances : AreGroundTerms sig instances → start_fault sig strands instances ≡ None → AreInstances canonical sig strands instances
+  pub starting_instances : AreGroundTerms sig instances → start_fault nf sig strands instances ≡ None → AreInstances nf sig strands instances
   starting_instances ground e =
-      let both = both_none (first_fault sig strands 0 instances) (option_map cause.Twice (first_again [] (fresh_names strands instances))) e in
+      let both = both_none (first_fault nf sig strands 0 instances) (option_map cause.Twice (first_again [] (fresh_names strands instances))) e in
       record {
-        each = λ n instance at. let f = each_fits sig strands 0 instances both.0 n instance at in record {
+        each = λ n instance at. let f = each_fits nf sig strands 0 instances both.0 n instance at in record {
           strand = f.strand;
           there = f.there;
           sorts = f.sorts;
-          normal = λ t has. record { term = ground n instance at t has; normal = refl };
+          normal = λ t has. record { term = ground n instance at t has; normal = f.normal t has };
         };
         apart = (apart_exactly (fresh_names strands instances)).1 (never_twice (first_again [] (fresh_names strands instances)) both.1);
       }

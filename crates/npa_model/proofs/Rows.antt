@@ -1,10 +1,8 @@
--- The message of an application is made from those of its arguments.
-use Rattle.std.proofs.Common.{◌≡◌, List, [], ◌∷◌, map, refl, ap, sym, ◌∙◌}
+-- An application under values has its arguments under these.
+use Rattle.std.proofs.Common.{◌≡◌, List, ◌∷◌, map, refl, ap, ◌∙◌}
 use Rattle.npa_term.specs.declared.term.Op.{Op}
 use Rattle.npa_term.specs.declared.term.Term.{Term, App, Row_of-Term, end_of-Term, more_of-Term, items-the_row-Term, items_hidden-the_row-Term-0}
 use Rattle.npa_term.specs.declared.term.Term.TheBlock.{hidden-the_row-Term-0}
-use Rattle.npa_term.specs.Canonical.{canonical, ordered}
-use Rattle.npa_term.proofs.Rows.{canonical_app}
 use Rattle.npa_model.specs.Values.{under, under_row}
 
 under_row_is : {n : _} (values : List Term) (k : Row_of-Term n) → under_row values k ≡ map (under values) (items-the_row-Term n k)
@@ -15,11 +13,3 @@ pub under_at : (values : List Term) (t : Term) (op : Op) (ts : List Term) → t 
 under_at values t op ts e =
     let k = hidden-the_row-Term-0 ts in
     ap (under values) e ∙ ap (App op) (under_row_is values k ∙ ap (map (under values)) (items_hidden-the_row-Term-0 ts))
-
-twice : (values ts : List Term) → map canonical (map (under values) ts) ≡ map (λ t. canonical (under values t)) ts
-twice values [] = refl
-twice values (t ∷ ts) = ap (λ us. canonical (under values t) ∷ us) (twice values ts)
-
-pub message_made : (values : List Term) (t : Term) (op : Op) (ts made sorted : List Term) → t ≡ App op ts → sorted ≡ ordered op made → made ≡ map (λ u. canonical (under values u)) ts → App op sorted ≡ canonical (under values t)
-message_made values t op ts made sorted e s m =
-    ap (App op) (s ∙ ap (ordered op) (m ∙ sym (twice values ts))) ∙ sym (canonical_app op (map (under values) ts)) ∙ ap canonical (sym (under_at values t op ts e))

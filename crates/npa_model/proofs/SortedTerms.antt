@@ -1,17 +1,16 @@
 -- Well-sorted terms: their arguments, their canonical forms, and terms in which values of the right
 -- sorts stand for the variables.
-use Rattle.std.proofs.Common.{◌≡◌, ℕ, zero, suc, ◌+◌, ◌<◌, ◌==◌, ◌&&◌, Bool, true, false, List, [], ◌∷◌, Option, None, Some, map, length, slice_get, Contains, inl, inr, refl, ap, sym, ◌∙◌, subst, arith}
+use Rattle.std.proofs.Common.{◌≡◌, ℕ, zero, suc, ◌==◌, ◌&&◌, Bool, true, false, List, [], ◌∷◌, Option, None, Some, map, slice_get, Contains, inl, refl, ap, sym, ◌∙◌, subst, arith}
 use Rattle.std.specs.List.{list_all, flat_map}
 use Rattle.std.specs.Prelude.{unwrap_or}
-use Rattle.std.proofs.lemmas.Bool.{and_parts, and_from, eqb-true, eq-eqb}
+use Rattle.std.proofs.lemmas.Bool.{and_parts, and_from, eqb-true}
 use Rattle.std.proofs.lemmas.List.Elements.{Contains-append_left, Contains-append_right}
 use Rattle.std.proofs.lemmas.Option.{same_Some, none-some}
-use Rattle.npa_sorts.specs.Subsorts.{at_or_below}
 use Rattle.npa_sorts.proofs.Climbs.{decides}
 use Rattle.npa_sorts.proofs.Steps.{at_or_below_trans}
 use Rattle.npa_term.specs.declared.term.Op.{Op}
 use Rattle.npa_term.specs.declared.term.Var.{Var as Variable}
-use Rattle.npa_term.specs.declared.term.Term.{Term, Var, Name, App}
+use Rattle.npa_term.specs.declared.term.Term.{Term, Var, App}
 use Rattle.npa_term.specs.Agreeing.{Agrees}
 use Rattle.npa_term.specs.Canonical.{canonical, ordered}
 use Rattle.npa_term.specs.Variables.{variables, IsGround}

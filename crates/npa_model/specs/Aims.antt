@@ -65,5 +65,5 @@ pub record Misses (nf : Term → Term) (protocol : Protocol) (aim : Aim) (run : 
 
 -- The run breaks at step j, where step 0 is the list of instances, for this cause.
 pub data Breaks (nf : Term → Term) (protocol : Protocol) (run : Run) : ℕ → Cause → Type 0 where
-  at_start : (why : Cause) → start_fault protocol.sig protocol.strands run.instances ≡ Some why → Breaks nf protocol run 0 why
+  at_start : (why : Cause) → start_fault nf protocol.sig protocol.strands run.instances ≡ Some why → Breaks nf protocol run 0 why
   at_step : (j : ℕ) (why : Cause) → AreInstances nf protocol.sig protocol.strands run.instances → BreaksAt nf protocol.strands run.instances run.schedule j why → Breaks nf protocol run j why

@@ -14,6 +14,7 @@ use Rattle.npa_model.specs.declared.run.Cause.{Cause}
 use Rattle.npa_model.specs.declared.run.Cause.TheVariants as cause
 use Rattle.npa_model.specs.declared.run.RunFail.{RunFail}
 use Rattle.npa_model.specs.declared.run.RunFail.TheVariants as run_fail
+use Rattle.npa_model.specs.Normal.{is_normal_by}
 use Rattle.npa_model.specs.State.{State}
 
 -- the sorts of a strand's parameters: of its variables, then that of fresh values for each of those
@@ -77,21 +78,27 @@ sort_fault sig k p [] sorts = None
 sort_fault sig k p (t ∷ ts) [] = None
 sort_fault sig k p (t ∷ ts) (s ∷ sorts) = cond (is_below sig (sort_of t) s) (sort_fault sig k (p + 1) ts sorts) (Some (cause.Sort k p))
 
-abbrev pub strand_fault : Signature → ℕ → Option Strand → List Term → Option Cause
-strand_fault sig k None args = Some (cause.Params k)
-strand_fault sig k (Some strand) args = cond (length args == length (param_sorts strand)) (sort_fault sig k 0 args (param_sorts strand)) (Some (cause.Params k))
-
--- why the instance of number k is none: its number of terms, then the first wrong sort
-abbrev pub instance_fault : Signature → List Strand → ℕ → Instance → Option Cause
-instance_fault sig strands k instance = strand_fault sig k (slice_get strands instance.strand) instance.args
-
 abbrev pub or_else : Option Cause → Option Cause → Option Cause
 or_else (Some c) o = Some c
 or_else None o = o
 
-abbrev pub first_fault : Signature → List Strand → ℕ → List Instance → Option Cause
-first_fault sig strands k [] = None
-first_fault sig strands k (i ∷ is) = or_else (instance_fault sig strands k i) (first_fault sig strands (k + 1) is)
+-- the first parameter, from p on, whose term isn't normal
+abbrev pub normal_fault : (Term → Term) → ℕ → ℕ → List Term → Option Cause
+normal_fault nf k p [] = None
+normal_fault nf k p (t ∷ ts) = cond (is_normal_by nf t) (normal_fault nf k (p + 1) ts) (Some (cause.Normal k p))
+
+abbrev pub strand_fault : (Term → Term) → Signature → ℕ → Option Strand → List Term → Option Cause
+strand_fault nf sig k None args = Some (cause.Params k)
+strand_fault nf sig k (Some strand) args = cond (length args == length (param_sorts strand)) (or_else (sort_fault sig k 0 args (param_sorts strand)) (normal_fault nf k 0 args)) (Some (cause.Params k))
+
+-- why the instance of number k is none: its number of terms, then the first wrong sort, then the
+-- first term that isn't normal
+abbrev pub instance_fault : (Term → Term) → Signature → List Strand → ℕ → Instance → Option Cause
+instance_fault nf sig strands k instance = strand_fault nf sig k (slice_get strands instance.strand) instance.args
+
+abbrev pub first_fault : (Term → Term) → Signature → List Strand → ℕ → List Instance → Option Cause
+first_fault nf sig strands k [] = None
+first_fault nf sig strands k (i ∷ is) = or_else (instance_fault nf sig strands k i) (first_fault nf sig strands (k + 1) is)
 
 -- the first name that stands a second time, behind names that were seen
 abbrev pub first_again : List ℕ → List ℕ → Option ℕ
@@ -100,11 +107,11 @@ first_again seen (n ∷ ns) = cond (list_any (nat_eq n) seen) (Some n) (first_ag
 
 -- why a run doesn't begin with these instances: the first fault of an instance, then the first fresh
 -- name that is the value of a second fresh parameter
-abbrev pub start_fault : Signature → List Strand → List Instance → Option Cause
-start_fault sig strands instances = or_else (first_fault sig strands 0 instances) (option_map cause.Twice (first_again [] (fresh_names strands instances)))
+abbrev pub start_fault : (Term → Term) → Signature → List Strand → List Instance → Option Cause
+start_fault nf sig strands instances = or_else (first_fault nf sig strands 0 instances) (option_map cause.Twice (first_again [] (fresh_names strands instances)))
 
 -- the run begins with nothing executed and nothing sent, or this is why it doesn't
-abbrev pub Starts : Signature → List Strand → List Instance → Result State RunFail → Type 0
-Starts sig strands instances (Ok state) = (start_fault sig strands instances ≡ None) × (state ≡ record { executed = replicate (length instances) 0; sent = [] })
-Starts sig strands instances (Err (run_fail.Stop why)) = start_fault sig strands instances ≡ Some why
-Starts sig strands instances (Err run_fail.NoMemory) = Unit {0}
+abbrev pub Starts : (Term → Term) → Signature → List Strand → List Instance → Result State RunFail → Type 0
+Starts nf sig strands instances (Ok state) = (start_fault nf sig strands instances ≡ None) × (state ≡ record { executed = replicate (length instances) 0; sent = [] })
+Starts nf sig strands instances (Err (run_fail.Stop why)) = start_fault nf sig strands instances ≡ Some why
+Starts nf sig strands instances (Err run_fail.NoMemory) = Unit {0}

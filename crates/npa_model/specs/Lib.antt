@@ -1,7 +1,9 @@
 pub mod Values
+pub mod Normal
 pub mod Runs
 pub mod State
 pub mod Instances
 pub mod Aims
+pub mod Accepted
 pub mod Sent
 pub mod WellFormed

@@ -4,6 +4,7 @@ use Rattle.std.specs.Prelude.{◌≡◌, ◌≢◌, ℕ, ◌<◌, ◌≤◌, ◌
 use Rattle.npa_term.specs.declared.term.Var.{Var as Variable}
 use Rattle.npa_term.specs.declared.term.Term.{Term}
 use Rattle.npa_term.specs.Variables.{variables}
+use Rattle.npa_sig.specs.declared.protocol.Equation.{Equation}
 use Rattle.npa_sig.specs.declared.protocol.Event.{Event}
 use Rattle.npa_sig.specs.declared.protocol.Strand.{Strand}
 use Rattle.npa_sig.specs.declared.protocol.Protocol.{Protocol}
@@ -35,6 +36,17 @@ pub record IsMessageOver (sig : Signature) (sorts : List ℕ) (t : Term) : Type 
 abbrev pub AreSorts : Signature → List ℕ → Type 0
 AreSorts sig sorts = (s : ℕ) → Contains sorts s → is_sort sig s ≡ true
 
+-- The sides of an equation are messages over variables of the same sorts.
+pub record IsWellFormedEquation (sig : Signature) (equation : Equation) : Type 0 where
+  pub sorts : List ℕ
+  pub are_sorts : AreSorts sig sorts
+  pub left : IsMessageOver sig sorts equation.left
+  pub right : IsMessageOver sig sorts equation.right
+
+-- each equation is well formed
+abbrev pub AreWellFormedEquations : Signature → List Equation → Type 0
+AreWellFormedEquations sig equations = (k : ℕ) (equation : Equation) → slice_get equations k ≡ Some equation → IsWellFormedEquation sig equation
+
 -- A strand's messages are over its parameters, and its events and parameters can be counted.
 pub record IsWellFormedStrand (sig : Signature) (strand : Strand) : Type 0 where
   pub sorts : AreSorts sig strand.vars
@@ -51,9 +63,10 @@ pub record IsWellFormedSignature (sig : Signature) : Type 0 where
   pub sorts : HaveSorts sig.sorts sig.ops
   pub pairs : (k : ℕ) (decl : OpDecl) → slice_get sig.ops k ≡ Some decl → decl.«com» ≡ true → is_pair decl.args ≡ true
 
--- A protocol has such a signature, and strands over it.
+-- A protocol has such a signature, and equations and strands over it.
 pub record IsWellFormedProtocol (protocol : Protocol) : Type 0 where
   pub signature : IsWellFormedSignature protocol.sig
+  pub equations : AreWellFormedEquations protocol.sig protocol.equations
   pub strands : AreWellFormedStrands protocol.sig protocol.strands
 
 -- A strand part names a strand and as many of its events as it has at most, and gives a term for

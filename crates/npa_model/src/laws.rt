@@ -3,7 +3,6 @@
 
 ghost use Rattle.std.specs.Prelude.{◌≡◌, ◌↔◌, ℕ, [], None, List, Result};
 ghost use Rattle.npa_term.specs.declared.term.Term.{Term};
-ghost use Rattle.npa_term.specs.Canonical.{canonical};
 ghost use Rattle.npa_sig.specs.declared.protocol.Strand.{Strand};
 ghost use Rattle.npa_sig.specs.declared.protocol.Protocol.{Protocol};
 ghost use Rattle.npa_sig.specs.Signature.{Signature};
@@ -12,7 +11,8 @@ ghost use Rattle.npa_model.specs.declared.run.Instance.{Instance};
 ghost use Rattle.npa_model.specs.declared.run.Run.{Run};
 ghost use Rattle.npa_model.specs.declared.run.Cause.{Cause};
 ghost use Rattle.npa_model.specs.Runs.{Happens, Executes, BreaksAt};
-ghost use Rattle.npa_model.specs.Instances.{AreApart, AreGroundTerms, AreInstances, first_again, start_fault};
+ghost use Rattle.npa_model.specs.WellFormed.{IsWellFormedAim, IsWellFormedProtocol};
+ghost use Rattle.npa_model.specs.Instances.{IsGroundTerm, AreApart, AreGroundTerms, AreInstances, first_again, start_fault};
 ghost use Rattle.npa_model.specs.Aims.{IsRun, Reaches, Misses, Breaks};
 
 /// A step has one outcome, and a schedule that is executed sends one list of terms.
@@ -30,8 +30,8 @@ pub fn break_laws()
 /// A run begins with its instances where these have no fault, and only there.
 pub fn instance_laws()
     ensures apart { (names : List ℕ) → AreApart names ↔ (first_again [] names ≡ None) }
-    ensures faultless { (nf : Term → Term) (sig : Signature) (strands : List Strand) (instances : List Instance) → AreInstances nf sig strands instances → start_fault sig strands instances ≡ None }
-    ensures instances { (sig : Signature) (strands : List Strand) (instances : List Instance) → AreGroundTerms sig instances → start_fault sig strands instances ≡ None → AreInstances canonical sig strands instances }
+    ensures faultless { (nf : Term → Term) (sig : Signature) (strands : List Strand) (instances : List Instance) → AreInstances nf sig strands instances → start_fault nf sig strands instances ≡ None }
+    ensures instances { (nf : Term → Term) (sig : Signature) (strands : List Strand) (instances : List Instance) → AreGroundTerms sig instances → start_fault nf sig strands instances ≡ None → AreInstances nf sig strands instances }
 {}
 
 /// A run reaches an aim, breaks or misses a part, and no two of these. It breaks at one step, for
@@ -41,4 +41,13 @@ pub fn outcome_laws()
     ensures reaches_or_misses { (nf : Term → Term) (protocol : Protocol) (aim : Aim) (run : Run) (k : ℕ) → Reaches nf protocol aim run → Misses nf protocol aim run k → ⊥ }
     ensures breaks_once { (nf : Term → Term) (protocol : Protocol) (run : Run) (j k : ℕ) (why because : Cause) → Breaks nf protocol run j why → Breaks nf protocol run k because → (j ≡ k) × (why ≡ because) }
     ensures misses_once { (nf : Term → Term) (protocol : Protocol) (aim : Aim) (run : Run) (j k : ℕ) → Misses nf protocol aim run j → Misses nf protocol aim run k → j ≡ k }
+{}
+
+/// Functions that have the same normal forms of ground terms make the same runs of a well-formed
+/// protocol, which break at the same steps and reach or miss the same aims.
+pub fn form_laws()
+    ensures runs { (protocol : Protocol) (nf mf : Term → Term) (run : Run) (sent : List Term) → IsWellFormedProtocol protocol → ((t : Term) → IsGroundTerm protocol.sig t → nf t ≡ mf t) → IsRun nf protocol run sent → IsRun mf protocol run sent }
+    ensures breaks { (protocol : Protocol) (nf mf : Term → Term) (run : Run) (j : ℕ) (why : Cause) → IsWellFormedProtocol protocol → ((t : Term) → IsGroundTerm protocol.sig t → nf t ≡ mf t) → AreGroundTerms protocol.sig run.instances → Breaks nf protocol run j why → Breaks mf protocol run j why }
+    ensures reaches { (protocol : Protocol) (nf mf : Term → Term) (aim : Aim) (run : Run) → IsWellFormedProtocol protocol → ((t : Term) → IsGroundTerm protocol.sig t → nf t ≡ mf t) → IsWellFormedAim protocol.sig protocol.strands aim → Reaches nf protocol aim run → Reaches mf protocol aim run }
+    ensures misses { (protocol : Protocol) (nf mf : Term → Term) (aim : Aim) (run : Run) (k : ℕ) → IsWellFormedProtocol protocol → ((t : Term) → IsGroundTerm protocol.sig t → nf t ≡ mf t) → IsWellFormedAim protocol.sig protocol.strands aim → Misses nf protocol aim run k → Misses mf protocol aim run k }
 {}

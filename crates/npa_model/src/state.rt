@@ -1,6 +1,7 @@
 ghost use Rattle.std.specs.Prelude.{◌≡◌, ◌<◌, ◌↔◌, ◌^◌, [], length, slice_get, replicate, IsTrue, IfOk, Contains};
-ghost use Rattle.npa_term.specs.Canonical.{canonical};
 ghost use Rattle.std.specs.Option.{option_copied};
+ghost use Rattle.npa_rewrite.specs.Innermost.{normalized};
+ghost use Rattle.npa_rewrite.specs.Rewriting.{AllCancel};
 ghost use Rattle.npa_model.specs.Runs.{events_of};
 ghost use Rattle.npa_model.specs.State.{Steps, AreCountable};
 
@@ -8,6 +9,7 @@ use crate::run::{Cause, Instance, Instances, RunFail};
 use crate::sent::Sent;
 use crate::values::message;
 use npa_list::List;
+use npa_rewrite::Theory;
 use npa_sig::{Event, Protocol};
 use npa_term::{Term, Terms};
 use std::alloc::Global;
@@ -60,14 +62,16 @@ impl RunState {
 /// form of its message was sent.
 pub fn step_run(
     alloc: Global,
+    th: &Theory,
     protocol: &Protocol,
     instances: &Instances,
     state: &mut RunState,
     instance: u32,
 ) -> Result<(), RunFail>
+    requires cancelling { AllCancel th.now }
     requires begun { length state.old.executed ≡ length instances.now }
     requires countable { AreCountable protocol.now.strands }
-    ensures { Steps canonical protocol.now.strands instances.now state.old state.new instance result }
+    ensures { Steps (normalized th.now) protocol.now.strands instances.now state.old state.new instance result }
 {
     let place = instance as usize;
     let named = match instances.get(place) {
@@ -80,7 +84,7 @@ pub fn step_run(
         None => return Err(RunFail::Stop(Cause::Ended(instance))),
     };
     let next = done + 1;
-    let term = message(alloc, named.args.as_slice(), &event.msg)?;
+    let term = message(alloc, th, named.args.as_slice(), &event.msg)?;
     match state.sent.exchange(event.sent, term) {
         Ok(()) => {
             state.counts.set(place, next);

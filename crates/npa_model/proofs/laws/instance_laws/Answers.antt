@@ -4,6 +4,6 @@ use Rattle.npa_model.proofs.laws.instance_laws.Goals as goal
 pub returns : goal.returns
 returns c = record {
   apart = apart_exactly;
-  faultless = λ nf sig strands instances are. instances_start sig strands instances nf are;
+  faultless = instances_start;
   instances = starting_instances;
 }
