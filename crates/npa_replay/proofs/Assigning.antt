@@ -1,39 +1,35 @@
 -- Parts that are matched one after another are met by an assignment, and the other way round.
-use Rattle.std.specs.Prelude.{◌⊎◌, unwrap_or, zip, IsSome}
+use Rattle.std.specs.Prelude.{unwrap_or, IsSome}
 use Rattle.std.specs.List.{flat_map}
-use Rattle.std.proofs.Common.{◌≡◌, ℕ, zero, suc, ◌+◌, ◌<◌, ◌≤◌, ⊎_elim, Bool, true, false, ◌&&◌, List, [], ◌∷◌, ◌++◌, Option, None, Some, map, length, slice_get, get_or, Contains, cond, nat_eq, refl, ap, sym, ◌∙◌, subst, arith}
-use Rattle.std.proofs.lemmas.Bool.{and_parts, and_from, eq-eqb, ne_eqb, eqb-true}
-use Rattle.std.proofs.lemmas.List.Elements.{Contains-append_left, Contains-append_right, Contains-append_cases, Contains-push}
-use Rattle.std.proofs.lemmas.Option.{same_Some, none-some, slice_get-get_or}
+use Rattle.std.proofs.Common.{◌≡◌, ℕ, zero, suc, ◌+◌, ⊎_elim, true, false, ◌&&◌, List, [], ◌∷◌, Option, None, Some, map, slice_get, Contains, cond, nat_eq, refl, ap, sym, ◌∙◌, subst, arith}
+use Rattle.std.proofs.lemmas.Bool.{and_from, eq-eqb, ne_eqb}
+use Rattle.std.proofs.lemmas.List.Elements.{Contains-append_left, Contains-append_right}
+use Rattle.std.proofs.lemmas.Option.{same_Some, none-some}
 use Rattle.npa_sorts.specs.Subsorts.{IsAtOrBelow}
 use Rattle.npa_sorts.proofs.Climbs.{decides}
-use Rattle.npa_term.specs.declared.term.Op.{Op}
 use Rattle.npa_term.specs.declared.term.Var.{Var as Variable}
-use Rattle.npa_term.specs.declared.term.Term.{Term, Var, Name, App}
+use Rattle.npa_term.specs.declared.term.Term.{Term, Var, App}
 use Rattle.npa_term.specs.Agreeing.{ValuesAgree}
 use Rattle.npa_term.specs.Bound.{value_of, applied, same_var}
 use Rattle.npa_term.specs.Canonical.{canonical}
-use Rattle.npa_term.specs.Same.{Same, through}
+use Rattle.npa_term.specs.Same.{Same}
 use Rattle.npa_term.specs.Variables.{variables, IsGround}
 use Rattle.npa_term.proofs.AgreeingLaws.{same_canonical, canonical_equal}
 use Rattle.npa_term.proofs.AppliedLaws.{agrees_applied}
-use Rattle.npa_term.proofs.CanonicalLaws.{canonical_same, canonical-canonical}
 use Rattle.npa_term.proofs.GroundLaws.{ground_arguments}
 use Rattle.npa_term.proofs.Induction.{Each, by_terms}
 use Rattle.npa_term.proofs.Rows.{applied_app, variables_at}
-use Rattle.npa_term.proofs.SameLaws.{same_sym}
-use Rattle.npa_sig.specs.declared.protocol.Strand.{Strand}
 use Rattle.npa_sig.specs.Signature.{Signature}
 use Rattle.npa_sig.specs.Sorting.{is_below, sort_of, all_below}
-use Rattle.npa_match.specs.Matching.{least_sort, image, first_variables, Matches, IsPart, whole, inside, IsMatcher}
+use Rattle.npa_match.specs.Matching.{least_sort, image, IsPart, whole, inside, IsMatcher}
 use Rattle.npa_model.specs.Values.{under}
-use Rattle.npa_model.specs.Instances.{IsGroundTerm}
+use Rattle.npa_model.specs.Instances.{IsNormalTerm}
 use Rattle.npa_model.specs.WellFormed.{IsOwn, IsTermOver}
 use Rattle.npa_model.proofs.Rows.{under_at}
 use Rattle.npa_model.proofs.SortedTerms.{IsSorted, declaration, sorted_agrees, arguments_sorted, below_at}
-use Rattle.npa_replay.specs.Choices.{HasGroundTerm, HasMatch, HasMatcher}
+use Rattle.npa_replay.specs.Choices.{HasMatch}
 use Rattle.npa_replay.proofs.Choosing.{occurs_first, occurs_in}
-use Rattle.npa_replay.proofs.Members.{contains_cases, contains_head, contains_tail}
+use Rattle.npa_replay.proofs.Members.{contains_cases}
 
 each_member : (P : Term → Type 0) (ts : List Term) (t : Term) → Each P ts → Contains ts t → P t
 each_member P [] t each h = absurd (omega (arith, h.1))
@@ -48,8 +44,12 @@ part_ground : {t u : Term} → IsPart t u → IsGround u → IsGround t
 part_ground whole g = g
 part_ground {t = t} (inside op us u h p) g = part_ground p (each_member IsGround us u (ground_arguments op us g) h)
 
+-- a part of a normal ground term is one
+part_normal : (nf : Term → Term) (sig : Signature) → ((t u : Term) → IsPart t u → nf u ≡ canonical u → nf t ≡ canonical t) → (t u : Term) → IsPart t u → IsNormalTerm nf sig u → IsNormalTerm nf sig t
+part_normal nf sig keeps t u p n = record { term = record { sorted = part_sorted sig p n.term.sorted; ground = part_ground p n.term.ground }; normal = keeps t u p n.normal }
+
 -- the two names of the least sort
-least_is : (t : Term) → least_sort t ≡ sort_of t
+pub least_is : (t : Term) → least_sort t ≡ sort_of t
 least_is = by_terms (λ t. least_sort t ≡ sort_of t) (λ v. refl) (λ n. refl) (λ op ts each. refl)
 
 -- a substitution and values that agree on a term's variables give one instance
@@ -71,11 +71,17 @@ applied_under s values =
 abbrev variable : ℕ → ℕ → Variable
 variable n s = record { num = n; sort = s }
 
-module _ (sig : Signature) (sorts : List ℕ) where
-  -- a pair of a term over the aim's variables and a ground term
+-- a normal ground term of a sort at or below this one
+pub record HasNormalTerm (nf : Term → Term) (sig : Signature) (sort : ℕ) : Type 0 where
+  pub term : Term
+  pub good : IsNormalTerm nf sig term
+  pub below : is_below sig (sort_of term) sort ≡ true
+
+module _ (nf : Term → Term) (sig : Signature) (sorts : List ℕ) where
+  -- a pair of a term over the aim's variables and a normal ground term
   pub record IsGoodPair (p : Term × Term) : Type 0 where
     pub first : IsTermOver sig sorts p.0
-    pub second : IsGroundTerm sig p.1
+    pub second : IsNormalTerm nf sig p.1
 
   abbrev pub AreGood : List (Term × Term) → Type 0
   AreGood pairs = (p : Term × Term) → Contains pairs p → IsGoodPair p
@@ -84,12 +90,12 @@ module _ (sig : Signature) (sorts : List ℕ) where
   pub record Assigned (pairs : List (Term × Term)) : Type 0 where
     pub values : List Term
     pub sorted : all_below sig (map sort_of values) sorts ≡ true
-    pub good : (t : Term) → Contains values t → IsGroundTerm sig t
+    pub good : (t : Term) → Contains values t → IsNormalTerm nf sig t
     pub equal : (p : Term × Term) → Contains pairs p → canonical (under values p.0) ≡ canonical p.1
 
-  module _ (pairs : List (Term × Term)) (good : AreGood pairs) (s : List (Variable × Term)) (m : IsMatcher sig.sorts pairs s) where
+  module _ (keeps : (t u : Term) → IsPart t u → nf u ≡ canonical u → nf t ≡ canonical t) (pairs : List (Term × Term)) (good : AreGood pairs) (s : List (Variable × Term)) (m : IsMatcher sig.sorts pairs s) where
     record Good (t : Term) (sort : ℕ) : Type 0 where
-      term : IsGroundTerm sig t
+      term : IsNormalTerm nf sig t
       below : is_below sig (sort_of t) sort ≡ true
 
     bound_good : (v : Variable) (t : Term) → value_of s v ≡ Some t → Good t v.sort
@@ -98,32 +104,32 @@ module _ (sig : Signature) (sorts : List ℕ) where
         let p = good (x.0, x.1) x.2 in
         let is : image s v ≡ t = ap (λ o. unwrap_or o (Var v)) e in
         record {
-          term = record { sorted = part_sorted sig x.3 p.second.sorted; ground = part_ground x.3 p.second.ground };
+          term = part_normal nf sig keeps t x.1 x.3 p.second;
           below = subst (λ n. is_below sig n v.sort ≡ true) (ap least_sort is ∙ least_is t) ((decides sig.sorts (least_sort (image s v)) v.sort).1 (m.matches.sorts v (m.only v t e)));
         }
 
-    value_good : (v : Variable) (d : HasGroundTerm sig v.sort) → Good (unwrap_or (value_of s v) d.term) v.sort
+    value_good : (v : Variable) (d : HasNormalTerm nf sig v.sort) → Good (unwrap_or (value_of s v) d.term) v.sort
     value_good v d = by (value_of s v) refl
       where
         by : (o : Option Term) → value_of s v ≡ o → Good (unwrap_or o d.term) v.sort
         by None e = record { term = d.good; below = d.below }
         by (Some t) e = bound_good v t e
 
-    abbrev values_from : (k : ℕ) (ss : List ℕ) → ((i n : ℕ) → slice_get ss i ≡ Some n → HasGroundTerm sig n) → List Term
+    abbrev values_from : (k : ℕ) (ss : List ℕ) → ((i n : ℕ) → slice_get ss i ≡ Some n → HasNormalTerm nf sig n) → List Term
     values_from k [] has = []
     values_from k (n ∷ ss) has = unwrap_or (value_of s (variable k n)) (has 0 n refl).term ∷ values_from (k + 1) ss (λ i. has (suc i))
 
-    values_below : (k : ℕ) (ss : List ℕ) (has : (i n : ℕ) → slice_get ss i ≡ Some n → HasGroundTerm sig n) → all_below sig (map sort_of (values_from k ss has)) ss ≡ true
+    values_below : (k : ℕ) (ss : List ℕ) (has : (i n : ℕ) → slice_get ss i ≡ Some n → HasNormalTerm nf sig n) → all_below sig (map sort_of (values_from k ss has)) ss ≡ true
     values_below k [] has = refl
     values_below k (n ∷ ss) has =
         and_from (is_below sig (sort_of (unwrap_or (value_of s (variable k n)) (has 0 n refl).term)) n) (all_below sig (map sort_of (values_from (k + 1) ss (λ i. has (suc i)))) ss)
         (value_good (variable k n) (has 0 n refl)).below (values_below (k + 1) ss (λ i. has (suc i)))
 
-    values_ground : (k : ℕ) (ss : List ℕ) (has : (i n : ℕ) → slice_get ss i ≡ Some n → HasGroundTerm sig n) → Each (IsGroundTerm sig) (values_from k ss has)
+    values_ground : (k : ℕ) (ss : List ℕ) (has : (i n : ℕ) → slice_get ss i ≡ Some n → HasNormalTerm nf sig n) → Each (IsNormalTerm nf sig) (values_from k ss has)
     values_ground k [] has = tt
     values_ground k (n ∷ ss) has = ((value_good (variable k n) (has 0 n refl)).term, values_ground (k + 1) ss (λ i. has (suc i)))
 
-    values_at : (k : ℕ) (ss : List ℕ) (has : (i n : ℕ) → slice_get ss i ≡ Some n → HasGroundTerm sig n) (i n : ℕ) (t : Term) →
+    values_at : (k : ℕ) (ss : List ℕ) (has : (i n : ℕ) → slice_get ss i ≡ Some n → HasNormalTerm nf sig n) (i n : ℕ) (t : Term) →
         slice_get ss i ≡ Some n → value_of s (variable (k + i) n) ≡ Some t → slice_get (values_from k ss has) i ≡ Some t
     values_at k [] has i n t at e = absurd (none-some n at)
     values_at k (r ∷ ss) has zero n t at e =
@@ -139,16 +145,16 @@ module _ (sig : Signature) (sorts : List ℕ) where
     is_bound (Some t) e = (t, refl)
 
     agree : ValuesAgree (declaration sig) s
-    agree v t e = sorted_agrees sig t (bound_good v t e).term.sorted
+    agree v t e = sorted_agrees sig t (bound_good v t e).term.term.sorted
 
     -- a matcher, and a ground term for each sort, give an assignment
-    pub assigned : ((i n : ℕ) → slice_get sorts i ≡ Some n → HasGroundTerm sig n) → Assigned pairs
+    pub assigned : ((i n : ℕ) → slice_get sorts i ≡ Some n → HasNormalTerm nf sig n) → Assigned pairs
     assigned has =
         let values = values_from 0 sorts has in
         record {
           values = values;
           sorted = values_below 0 sorts has;
-          good = λ t h. each_member (IsGroundTerm sig) values t (values_ground 0 sorts has) h;
+          good = λ t h. each_member (IsNormalTerm nf sig) values t (values_ground 0 sorts has) h;
           equal = λ p h.
               let g = good p h in
               let same : applied s p.0 ≡ under values p.0 = applied_under s values p.0 (λ v o.
@@ -157,11 +163,12 @@ module _ (sig : Signature) (sorts : List ℕ) where
               let there : slice_get values v.num ≡ Some b.0 = values_at 0 sorts has v.num v.sort b.0 (g.first.own v o) (ap (λ a. value_of s (variable a v.sort)) (sym place) ∙ b.1) in
               ap (λ q. unwrap_or q (Var v)) (b.1 ∙ sym there)) in
               ap canonical (sym same)
-              ∙ same_canonical (declaration sig) (applied s p.0) p.1 (agrees_applied (declaration sig) s agree p.0 (sorted_agrees sig p.0 g.first.sorted)) (sorted_agrees sig p.1 g.second.sorted) (m.matches.equal p.0 p.1 h);
+              ∙ same_canonical (declaration sig) (applied s p.0) p.1 (agrees_applied (declaration sig) s agree p.0 (sorted_agrees sig p.0 g.first.sorted)) (sorted_agrees sig p.1 g.second.term.sorted) (m.matches.equal p.0 p.1 h);
         }
 
+module _ (sig : Signature) (sorts : List ℕ) where
   -- an assignment, as a substitution
-  abbrev bindings : ℕ → List ℕ → List Term → List (Variable × Term)
+  abbrev pub bindings : ℕ → List ℕ → List Term → List (Variable × Term)
   bindings k [] values = []
   bindings k (n ∷ ss) [] = []
   bindings k (n ∷ ss) (t ∷ values) = (variable k n, t) ∷ bindings (k + 1) ss values
@@ -189,6 +196,17 @@ module _ (sig : Signature) (sorts : List ℕ) where
         let bound : value_of (bindings 0 sorts values) v ≡ Some x.term = ap (λ a. value_of (bindings 0 sorts values) (variable a v.sort)) (sym place) ∙ bound_at 0 sorts values v.num v.sort x.term (own v h) x.there in
         ap (λ q. unwrap_or q (Var v)) (bound ∙ sym x.there))
 
+    -- which respects sorts
+    pub bound_below : (v : Variable) → slice_get sorts v.num ≡ Some v.sort → (image (bindings 0 sorts values) v ≡ under values (Var v)) × IsAtOrBelow sig.sorts (least_sort (image (bindings 0 sorts values) v)) v.sort
+    bound_below v own =
+        let b = below_at sig values sorts below v.num v.sort own in
+        let place : 0 + v.num ≡ v.num = omega arith in
+        let bound : value_of (bindings 0 sorts values) v ≡ Some b.term = ap (λ a. value_of (bindings 0 sorts values) (variable a v.sort)) (sym place) ∙ bound_at 0 sorts values v.num v.sort b.term own b.there in
+        let is : image (bindings 0 sorts values) v ≡ b.term = ap (λ o. unwrap_or o (Var v)) bound in (
+          is ∙ sym (ap (λ o. unwrap_or o (Var v)) b.there),
+          subst (λ n. IsAtOrBelow sig.sorts n v.sort) (sym (ap least_sort is ∙ least_is b.term)) ((decides sig.sorts (sort_of b.term) v.sort).0 b.below),
+        )
+
     -- pairs that the values make equal have a match
     pub matched : (pairs : List (Term × Term)) → ((p : Term × Term) → Contains pairs p → IsOwn sorts p.0 × (canonical (under values p.0) ≡ canonical p.1)) → HasMatch sig.sorts pairs
     matched pairs each = record {
@@ -196,12 +214,7 @@ module _ (sig : Signature) (sorts : List ℕ) where
       matches = record {
         sorts = λ v h.
             let x = occurs_in pairs v h in
-            let own = (each x.pair x.there).0 v x.occurs in
-            let b = below_at sig values sorts below v.num v.sort own in
-            let place : 0 + v.num ≡ v.num = omega arith in
-            let bound : value_of (bindings 0 sorts values) v ≡ Some b.term = ap (λ a. value_of (bindings 0 sorts values) (variable a v.sort)) (sym place) ∙ bound_at 0 sorts values v.num v.sort b.term own b.there in
-            let is : image (bindings 0 sorts values) v ≡ b.term = ap (λ o. unwrap_or o (Var v)) bound in
-            subst (λ n. IsAtOrBelow sig.sorts n v.sort) (sym (ap least_sort is ∙ least_is b.term)) ((decides sig.sorts (sort_of b.term) v.sort).0 b.below);
+            (bound_below v ((each x.pair x.there).0 v x.occurs)).1;
         equal = λ t u h.
             let e = each (t, u) h in
             subst (λ r. Same r u) (sym (as_bound t e.0)) (canonical_equal (under values t) u e.1);

@@ -1,7 +1,7 @@
 -- Values over the signature without operators are well formed.
-use Rattle.std.proofs.Common.{◌≡◌, ℕ, ◌≢◌, true, length, slice_get, List, [], ◌∷◌, Some, refl, sym, ap, subst, Contains, arith}
+use Rattle.std.proofs.Common.{◌≡◌, ℕ, true, length, slice_get, List, [], ◌∷◌, Some, refl, sym, ap, subst, Contains, arith}
 use Rattle.npa_term.specs.declared.term.Var.{Var as Variable}
-use Rattle.npa_term.specs.declared.term.Term.{Term, Var}
+use Rattle.npa_term.specs.declared.term.Term.{Var}
 use Rattle.npa_sig.specs.declared.protocol.Protocol.{Protocol}
 use Rattle.npa_sig.specs.Signature.{Signature, bare}
 use Rattle.npa_sig.specs.Sorting.{is_sort}
@@ -15,9 +15,10 @@ use Rattle.npa_replay.proofs.Members.{contains_one}
 bare_formed : IsWellFormedSignature bare
 bare_formed = record { sorts = λ k decl at. cc; pairs = λ k decl at. cc }
 
-pub protocol_formed : (p : Protocol) → p.sig ≡ bare → p.strands ≡ [] → IsWellFormedProtocol p
-protocol_formed p sig strands = record {
+pub protocol_formed : (p : Protocol) → p.sig ≡ bare → p.equations ≡ [] → p.strands ≡ [] → IsWellFormedProtocol p
+protocol_formed p sig equations strands = record {
   signature = subst (λ (s : Signature). IsWellFormedSignature s) (sym sig) bare_formed;
+  equations = λ k equation at. cc;
   strands = λ k strand at. cc;
 }
 

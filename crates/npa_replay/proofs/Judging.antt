@@ -1,6 +1,5 @@
 -- What the search for the parts of an aim says of the run.
-use Rattle.std.specs.Prelude.{◌⊎◌}
-use Rattle.std.proofs.Common.{◌≡◌, ℕ, zero, suc, ◌+◌, ◌<◌, ◌≤◌, ⊎_elim, true, List, [], ◌∷◌, Option, None, Some, Result, Ok, Err, IfOk, refl, ap, sym, ◌∙◌, subst, slice_get, take, drop, length, Contains, arith}
+use Rattle.std.proofs.Common.{◌≡◌, ℕ, zero, suc, ◌+◌, ◌<◌, ◌≤◌, ⊎_elim, true, List, [], ◌∷◌, Some, Result, Ok, Err, IfOk, refl, ap, sym, ◌∙◌, subst, slice_get, take, drop, length, Contains, arith}
 use Rattle.std.proofs.lemmas.List.{take_all, take-append-drop}
 use Rattle.std.proofs.lemmas.Bool.{cases_lt, cases_order}
 use Rattle.std.proofs.lemmas.Option.{same_Some, none-some, slice_get-get_or}
@@ -11,17 +10,23 @@ use Rattle.npa_term.specs.declared.term.Term.{Term}
 use Rattle.npa_term.specs.Canonical.{canonical}
 use Rattle.npa_sig.specs.declared.protocol.Protocol.{Protocol}
 use Rattle.npa_sig.specs.Signature.{Signature}
-use Rattle.npa_sig.specs.Sorting.{is_sort}
+use Rattle.npa_sig.specs.Sorting.{is_sort, well_sorted}
 use Rattle.npa_sig.specs.declared.fault.LeastFail.TheVariants.{Past}
 use Rattle.npa_sig.specs.Least.{IsTermOf, IsLeastOf}
 use Rattle.npa_model.specs.declared.aim.Part.{Part}
 use Rattle.npa_model.specs.declared.aim.Aim.{Aim}
 use Rattle.npa_model.specs.declared.run.Run.{Run}
-use Rattle.npa_model.specs.WellFormed.{AreSorts, IsWellFormedPart, IsWellFormedProtocol, IsWellFormedAim}
-use Rattle.npa_model.specs.Instances.{IsGroundTerm, IsNormalTerm}
-use Rattle.npa_model.specs.Aims.{Meets, MeetsSomehow, IsRun, Reaches, Misses}
+use Rattle.npa_model.specs.WellFormed.{AreSorts, IsWellFormedProtocol, IsWellFormedAim}
+use Rattle.npa_rewrite.specs.declared.theory.Theory.{Theory}
+use Rattle.npa_rewrite.specs.Innermost.{normalized}
+use Rattle.npa_rewrite.specs.Rewriting.{AllCancel, PairsCommute}
+use Rattle.npa_rewrite.proofs.Normalized.{same_form}
+use Rattle.npa_model.specs.Accepted.{IsAccepted, IsAcceptedTerm}
+use Rattle.npa_model.specs.Instances.{AreGroundTerms, IsGroundTerm, IsNormalTerm}
+use Rattle.npa_model.specs.Aims.{Meets, MeetsSomehow, Reaches, Misses}
 use Rattle.npa_model.specs.State.{State}
 use Rattle.npa_model.proofs.AimLaws.{meets_front, runs_or_breaks, breaks_once, reaches_or_misses, misses_once}
+use Rattle.npa_model.proofs.OneForm.{same_reaches, same_breaks, same_misses}
 use Rattle.npa_model.proofs.SentTerms.{sent_terms}
 use Rattle.npa_model.proofs.SortedTerms.{below_at, contained}
 use Rattle.npa_replay.specs.declared.execution.Halt.{Halt}
@@ -30,57 +35,65 @@ use Rattle.npa_replay.specs.Executions.{HasRun, RunsThrough}
 use Rattle.npa_replay.specs.Choices.{HasGroundTerm, HaveGroundTerms, HasMatcher, Can, IsMost}
 use Rattle.npa_replay.specs.declared.answer.Replay.{Replay}
 use Rattle.npa_replay.specs.declared.answer.Replay.TheVariants as replay
-use Rattle.npa_replay.specs.Replays.{IsTrueOf, Stops}
-use Rattle.npa_replay.proofs.Meeting.{met_somehow, somehow_met}
+use Rattle.npa_replay.specs.Replays.{IsTrueOf, OfNormalForms, Stops}
+use Rattle.npa_replay.proofs.Meeting.{IsFormed, met_somehow, somehow_met}
+use Rattle.npa_replay.proofs.Settling.{Stable, stable}
 use Rattle.npa_replay.proofs.Choosing.{front_front}
 
 taken_member : (n : ℕ) (ps : List Part) (p : Part) → Contains (take n ps) p → Contains ps p
 taken_member n ps p h = subst (λ (qs : List Part). Contains qs p) (take-append-drop n ps) (Contains-append_left (take n ps) (drop n ps) p h)
 
 -- an assignment has a ground term for each sort
-assigned_terms : (sig : Signature) (sorts : List ℕ) (run : Run) (sent : List Term) (parts : List Part) → MeetsSomehow canonical sig sorts run sent parts → HaveGroundTerms sig sorts
-assigned_terms sig sorts run sent parts m = record {
+assigned_terms : (nf : Term → Term) (sig : Signature) (sorts : List ℕ) (run : Run) (sent : List Term) (parts : List Part) → MeetsSomehow nf sig sorts run sent parts → HaveGroundTerms sig sorts
+assigned_terms nf sig sorts run sent parts m = record {
   each = λ i s at.
       let x = below_at sig m.values sorts m.assigns.sorted i s at in
       record { term = x.term; good = (m.assigns.normal x.term (contained sig m.values i x.term x.there)).term; below = x.below };
 }
 
-module _ (protocol : Protocol) (formed : IsWellFormedProtocol protocol) (aim : Aim) (good : IsWellFormedAim protocol.sig protocol.strands aim) (run : Run) (state : State) (has : HasRun canonical protocol run state) where
-  part_formed : (n : ℕ) (p : Part) → Contains (take n aim.parts) p → IsWellFormedPart protocol.sig protocol.strands aim.sorts p
-  part_formed n p h = good.parts p (taken_member n aim.parts p h)
+module _ (th : Theory) (protocol : Protocol) (formed : IsWellFormedProtocol protocol) (steady : Stable th protocol.sig) (aim : Aim) (good : IsWellFormedAim protocol.sig protocol.strands aim)
+    (run : Run) (state : State) (has : HasRun (normalized th) protocol run state) where
+  sent_good : (u : Term) → Contains state.sent u → IsNormalTerm (normalized th) protocol.sig u × (canonical u ≡ u)
+  sent_good =
+      sent_terms (normalized th) protocol.sig protocol.strands formed.strands run.instances has.runs.instances.each
+      (λ u. IsNormalTerm (normalized th) protocol.sig u × (canonical u ≡ u)) steady.forms has.runs.executes
 
-  somehow : HaveGroundTerms protocol.sig aim.sorts → (n : ℕ) → Can run.instances state (HasMatcher protocol.sig.sorts) (take n aim.parts) [] [] → MeetsSomehow canonical protocol.sig aim.sorts run state.sent (take n aim.parts)
-  somehow have n c = met_somehow protocol.sig protocol.strands aim.sorts run state has.runs.instances.each
-      (sent_terms protocol.sig formed.signature protocol.strands formed.strands run.instances has.runs.instances.each has.runs.executes) has.counts
-      (take n aim.parts) (part_formed n) have.each c
+  part_formed : IsAccepted th aim → (n : ℕ) (p : Part) → Contains (take n aim.parts) p → IsFormed (IsAcceptedTerm th) protocol.sig protocol.strands aim.sorts p
+  part_formed accepted n p h = let there = taken_member n aim.parts p h in (good.parts p there, accepted p there)
+
+  somehow : IsAccepted th aim → HaveGroundTerms protocol.sig aim.sorts → (n : ℕ) → Can run.instances state (HasMatcher protocol.sig.sorts) (take n aim.parts) [] [] →
+      MeetsSomehow (normalized th) protocol.sig aim.sorts run state.sent (take n aim.parts)
+  somehow accepted have n c =
+      met_somehow (normalized th) (IsAcceptedTerm th) protocol.sig protocol.strands aim.sorts run state steady.parts (steady.values aim.sorts) has.runs.instances.each sent_good has.counts
+      (take n aim.parts) (part_formed accepted n) (λ i s at. steady.sorts s (have.each i s at)) c
 
   -- each part is met
-  pub reaches : HaveGroundTerms protocol.sig aim.sorts → (most : ℕ) → IsMost run.instances state protocol.sig.sorts aim.parts [] [] most → most ≡ length aim.parts → Reaches canonical protocol aim run
-  reaches have most is e = record {
+  pub reaches : IsAccepted th aim → HaveGroundTerms protocol.sig aim.sorts → (most : ℕ) → IsMost run.instances state protocol.sig.sorts aim.parts [] [] most → most ≡ length aim.parts → Reaches (normalized th) protocol aim run
+  reaches accepted have most is e = record {
     sent = state.sent;
     runs = has.runs;
-    meets = subst (λ (ps : List Part). MeetsSomehow canonical protocol.sig aim.sorts run state.sent ps) (take_all most aim.parts (omega (arith, e))) (somehow have most is.met);
+    meets = subst (λ (ps : List Part). MeetsSomehow (normalized th) protocol.sig aim.sorts run state.sent ps) (take_all most aim.parts (omega (arith, e))) (somehow accepted have most is.met);
   }
 
   -- the part behind those that are met is missed
-  pub misses : HaveGroundTerms protocol.sig aim.sorts → (most : ℕ) → IsMost run.instances state protocol.sig.sorts aim.parts [] [] most → (most ≡ length aim.parts → ⊥) → Misses canonical protocol aim run (most + 1)
-  misses have most is other =
+  pub misses : IsAccepted th aim → HaveGroundTerms protocol.sig aim.sorts → (most : ℕ) → IsMost run.instances state protocol.sig.sorts aim.parts [] [] most → (most ≡ length aim.parts → ⊥) → Misses (normalized th) protocol aim run (most + 1)
+  misses accepted have most is other =
       let short : most < length aim.parts = strictly most (length aim.parts) is.within other in
       record {
         sent = state.sent;
         runs = has.runs;
         within = (omega arith, omega (arith, short));
-        fails = λ m. is.missed short (somehow_met protocol.sig protocol.strands aim.sorts run state has.runs.instances.each
-            (sent_terms protocol.sig formed.signature protocol.strands formed.strands run.instances has.runs.instances.each has.runs.executes) has.counts
-            (take (most + 1) aim.parts) (part_formed (most + 1)) m);
+        fails = λ m. is.missed short
+            (somehow_met (normalized th) (IsAcceptedTerm th) protocol.sig protocol.strands aim.sorts run state steady.parts (steady.values aim.sorts) has.runs.instances.each sent_good has.counts
+            (take (most + 1) aim.parts) (part_formed accepted (most + 1)) m);
         before = λ j first l.
-            let m = somehow have most is.met in
-            let f = meets_front canonical run state.sent m.values m.meets j in
+            let m = somehow accepted have most is.met in
+            let f = meets_front (normalized th) run state.sent m.values m.meets j in
             record {
               values = m.values;
               assigns = m.assigns;
               chosen = f.front;
-              meets = subst (λ (ps : List Part). Meets canonical run state.sent m.values ps f.front) (front_front j most aim.parts (omega (arith, l))) f.meets;
+              meets = subst (λ (ps : List Part). Meets (normalized th) run state.sent m.values ps f.front) (front_front j most aim.parts (omega (arith, l))) f.meets;
             };
       }
     where
@@ -88,12 +101,12 @@ module _ (protocol : Protocol) (formed : IsWellFormedProtocol protocol) (aim : A
       strictly a b l n = ⊎_elim (λ (e : a ≡ b). absurd (n e)) (λ o. ⊎_elim (λ (p : a < b). p) (λ (p : b < a). let no : ⊥ = omega (arith, l, p) in absurd no) o) (cases_order a b)
 
   -- where some sort has no ground term nothing meets the first part
-  pub misses_first : (HaveGroundTerms protocol.sig aim.sorts → ⊥) → Misses canonical protocol aim run 1
+  pub misses_first : (HaveGroundTerms protocol.sig aim.sorts → ⊥) → Misses (normalized th) protocol aim run 1
   misses_first none = record {
     sent = state.sent;
     runs = has.runs;
     within = (omega arith, good.has_parts);
-    fails = λ m. none (assigned_terms protocol.sig aim.sorts run state.sent (take 1 aim.parts) m);
+    fails = λ m. none (assigned_terms (normalized th) protocol.sig aim.sorts run state.sent (take 1 aim.parts) m);
     before = λ j first l. let no : ⊥ = omega (arith, first, l) in absurd no;
   }
 
@@ -151,17 +164,36 @@ module _ (nf : Term → Term) (protocol : Protocol) (aim : Aim) (run : Run) wher
   one_answer (replay.Misses j) (replay.Stops k because) x y = absurd (runs_or_breaks nf protocol run x.runs y)
   one_answer (replay.Misses j) (replay.Misses k) x y = ap replay.Misses (misses_once nf protocol run aim x y)
 
--- the answer is true of the run, and no other is
-module _ (protocol : Protocol) (aim : Aim) (run : Run) where
-  module _ (h : Halt) (breaks : RunsThrough canonical protocol run (Err h)) where
-    pub stops : (result : Result Replay NoMemory) → Stops h result → IfOk result (λ answer. IsTrueOf canonical protocol aim run answer)
-    stops result s = by h breaks s
-      where
-        by : (h : Halt) → RunsThrough canonical protocol run (Err h) → Stops h result → IfOk result (λ answer. IsTrueOf canonical protocol aim run answer)
-        by (halt.Break j why) b s = subst (λ (r : Result Replay NoMemory). IfOk r (λ answer. IsTrueOf canonical protocol aim run answer)) (sym s) b
-        by halt.NoMemory b s = subst (λ (r : Result Replay NoMemory). IfOk r (λ answer. IsTrueOf canonical protocol aim run answer)) (sym s.1) tt
+-- from the normal forms that are made to those of the definition
+module _ (th : Theory) (cancel : AllCancel th) (protocol : Protocol) (is : th.sig ≡ protocol.sig) (formed : IsWellFormedProtocol protocol) where
+  pub steady_ : Stable th protocol.sig
+  steady_ = subst (Stable th) is (stable th cancel (subst PairsCommute (sym is) formed.signature.pairs))
 
-  -- a true answer is the only one
-  pub only_true : (result : Result Replay NoMemory) → IfOk result (λ answer. IsTrueOf canonical protocol aim run answer) → IfOk result (λ answer. (other : Replay) → IsTrueOf canonical protocol aim run other → other ≡ answer)
-  only_true (Ok answer) x = λ other y. one_answer canonical protocol aim run other answer y x
-  only_true (Err e) x = tt
+  module _ (aim : Aim) (good : IsWellFormedAim protocol.sig protocol.strands aim) (run : Run) (ground : AreGroundTerms protocol.sig run.instances) where
+    true_of : (nf : Term → Term) → ((t : Term) → IsGroundTerm protocol.sig t → normalized th t ≡ nf t) → (answer : Replay) → IsTrueOf (normalized th) protocol aim run answer → IsTrueOf nf protocol aim run answer
+    true_of nf same replay.Reaches x = same_reaches protocol formed (normalized th) nf same run aim good x
+    true_of nf same (replay.Stops j why) x = same_breaks protocol formed (normalized th) nf same run ground j why x
+    true_of nf same (replay.Misses k) x = same_misses protocol formed (normalized th) nf same run aim good k x
+
+    -- the answer is true of the run
+    pub answers : (answer : Replay) → (IsAccepted th aim → IsTrueOf (normalized th) protocol aim run answer) → OfNormalForms th aim (λ nf. IsTrueOf nf protocol aim run answer)
+    answers answer x = λ convergent accepted nf gives.
+        true_of nf (λ t g. sym (same_form th nf t cancel convergent gives (subst (λ (s : Signature). well_sorted s t ≡ true) (sym is) g.sorted))) answer (x accepted)
+
+    -- and no other is
+    pub only_answer : (answer : Replay) → OfNormalForms th aim (λ nf. IsTrueOf nf protocol aim run answer) → OfNormalForms th aim (λ nf. (other : Replay) → IsTrueOf nf protocol aim run other → other ≡ answer)
+    only_answer answer x = λ convergent accepted nf gives other true. one_answer nf protocol aim run other answer true (x convergent accepted nf gives)
+
+    module _ (h : Halt) (breaks : RunsThrough (normalized th) protocol run (Err h)) where
+      pub stops : (result : Result Replay NoMemory) → Stops h result → IfOk result (λ answer. OfNormalForms th aim (λ nf. IsTrueOf nf protocol aim run answer))
+      stops result s = by h breaks s
+        where
+          by : (h : Halt) → RunsThrough (normalized th) protocol run (Err h) → Stops h result → IfOk result (λ answer. OfNormalForms th aim (λ nf. IsTrueOf nf protocol aim run answer))
+          by (halt.Break j why) b s =
+              subst (λ (r : Result Replay NoMemory). IfOk r (λ answer. OfNormalForms th aim (λ nf. IsTrueOf nf protocol aim run answer))) (sym s) (answers (replay.Stops j why) (λ accepted. b))
+          by halt.NoMemory b s = subst (λ (r : Result Replay NoMemory). IfOk r (λ answer. OfNormalForms th aim (λ nf. IsTrueOf nf protocol aim run answer))) (sym s.1) tt
+
+    pub only_true : (result : Result Replay NoMemory) → IfOk result (λ answer. OfNormalForms th aim (λ nf. IsTrueOf nf protocol aim run answer)) →
+        IfOk result (λ answer. OfNormalForms th aim (λ nf. (other : Replay) → IsTrueOf nf protocol aim run other → other ≡ answer))
+    only_true (Ok answer) x = only_answer answer x
+    only_true (Err e) x = tt

@@ -5,3 +5,13 @@ pub mod Choosing
 pub mod Members
 pub mod Executing
 pub mod Judging
+pub mod Settling
+pub mod Joining
+pub mod Picking
+pub mod Grouping
+pub mod Linking
+pub mod Growing
+pub mod Searching
+pub mod Heads
+pub mod Crowding
+pub mod Removing

@@ -42,6 +42,15 @@ abbrev pub with_term : Term → Option Term → List (Term × Term)
 with_term t None = []
 with_term t (Some u) = (t, u) ∷ []
 
+abbrev pub with_part : Option Part → List Part → List Part
+with_part None ps = ps
+with_part (Some p) ps = p ∷ ps
+
+-- the parts at these places, in this order
+abbrev pub picked : List Part → List ℕ → List Part
+picked parts [] = []
+picked parts (n ∷ ns) = with_part (slice_get parts n) (picked parts ns)
+
 module _ (instances : List Instance) (state : State) where
   -- an instance of the strand that has executed so many events
   abbrev pub IsAt : ℕ → ℕ → ℕ → Type 0
@@ -70,11 +79,6 @@ module _ (instances : List Instance) (state : State) where
     pub record IsMost (parts : List Part) (used : List ℕ) (pairs : List (Term × Term)) (most : ℕ) : Type 0 where
       pub within : most ≤ length parts
       pub met : Can (HasMatcher o) (take most parts) used pairs
-      pub missed : most < length parts → Can (HasMatch o) (take (most + 1) parts) used pairs → ⊥
-
-    -- no more parts than this can be met
-    pub record IsLimit (parts : List Part) (used : List ℕ) (pairs : List (Term × Term)) (most : ℕ) : Type 0 where
-      pub within : most ≤ length parts
       pub missed : most < length parts → Can (HasMatch o) (take (most + 1) parts) used pairs → ⊥
 
     -- a target that is free and whose pairs can be matched beside the others

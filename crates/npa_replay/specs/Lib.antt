@@ -1,3 +1,4 @@
 pub mod Replays
 pub mod Executions
 pub mod Choices
+pub mod Groups

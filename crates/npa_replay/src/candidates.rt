@@ -1,11 +1,13 @@
-ghost use Rattle.std.specs.Prelude.{◌≡◌, ◌<◌, ◌^◌, ℕ, [], false, length, IsTrue, IfOk};
+ghost use Rattle.std.specs.Prelude.{◌≡◌, ◌<◌, ◌^◌, ℕ, [], ◌∷◌, false, List, length, IsTrue, IfOk};
+ghost use Rattle.npa_sorts.specs.Subsorts.{Subsorts};
+ghost use Rattle.npa_term.specs.declared.term.Term.{Term, App};
 ghost use Rattle.npa_replay.specs.Choices.{AreAllCandidates, AreCandidates, HasMatch, IsTarget, target_pairs};
 
 use crate::scene::{Scene, add_pairs, is_target};
 use npa_list::List;
 use npa_match::find;
 use npa_model::Part;
-use npa_term::{NoMemory, Term};
+use npa_term::{NoMemory, Op, Term};
 use std::alloc::Global;
 
 /// For each part of an aim the targets that its terms match by themselves.
@@ -58,11 +60,44 @@ fn is_candidate(
     ensures target { IfOk result (λ b. IsTrue b → IsTarget scene.now.instances.now scene.now.state.now part.now place) }
     ensures other { IfOk result (λ b. b ≡ false → IsTarget scene.now.instances.now scene.now.state.now part.now place → HasMatch scene.now.sorts.now (target_pairs scene.now.instances.now scene.now.state.now part.now place) → ⊥) }
 {
-    if !is_target(scene, part, place) {
+    if !is_target(scene, part, place) || !may_match(scene, part, place) {
         return Ok(false);
     }
     let mut pairs = List::new(alloc);
     add_pairs(alloc, &mut pairs, scene, part, place)?;
     let found = find(alloc, scene.sorts, &pairs)?;
     Ok(found.is_some())
+}
+
+// A test without memory: a known part is matched by terms of its own operator alone.
+fn may_match(scene: &Scene<'_>, part: &Part, place: usize) -> bool
+    ensures { result ≡ false → HasMatch scene.now.sorts.now (target_pairs scene.now.instances.now scene.now.state.now part.now place) → ⊥ }
+{
+    match part {
+        Part::Known(t) => match scene.state.sent().get(place) {
+            Some(u) => heads_agree(t, u),
+            None => true,
+        },
+        Part::Strand { .. } => true,
+    }
+}
+
+// Whether the first term is a variable or a name, or both are of one operator.
+fn heads_agree(t: &Term, u: &Term) -> bool
+    ensures { result ≡ false → (o : Subsorts) → HasMatch o ((t.now, u.now) ∷ []) → ⊥ }
+{
+    match t {
+        Term::App(op, _) => is_of(u, *op),
+        _ => true,
+    }
+}
+
+// Whether the term is one of this operator.
+fn is_of(t: &Term, op: Op) -> bool
+    ensures { result ≡ false → (ts : List Term) → t.now ≡ App op ts → ⊥ }
+{
+    match t {
+        Term::App(f, _) => *f == op,
+        _ => false,
+    }
 }

@@ -87,11 +87,11 @@ fn is_free(used: &[usize], part: &Part, place: usize) -> bool
     }
 }
 
-// Whether the number is among those that are used.
-fn holds(used: &[usize], place: usize) -> bool
-    ensures { IsTrue result ↔ Contains used.now place }
+/// Whether the number is among these.
+pub(crate) fn holds(numbers: &[usize], number: usize) -> bool
+    ensures { IsTrue result ↔ Contains numbers.now number }
 {
-    used.contains(&place)
+    numbers.contains(&number)
 }
 
 // Takes the instance of a strand part.

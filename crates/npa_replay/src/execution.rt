@@ -1,10 +1,12 @@
 ghost use Rattle.std.specs.Prelude.{◌≡◌, ◌<◌, ◌^◌, [], length};
-ghost use Rattle.npa_term.specs.Canonical.{canonical};
+ghost use Rattle.npa_rewrite.specs.Innermost.{normalized};
+ghost use Rattle.npa_rewrite.specs.Rewriting.{AllCancel};
 ghost use Rattle.npa_model.specs.State.{AreCountable};
 ghost use Rattle.npa_model.specs.WellFormed.{IsWellFormedProtocol, IsWellFormedRun};
 ghost use Rattle.npa_replay.specs.Executions.{IsAfter, Ends, RunsThrough, halted};
 
 use npa_model::{Cause, Instances, Run, RunFail, RunState, step_run};
+use npa_rewrite::Theory;
 use npa_sig::Protocol;
 use std::alloc::Global;
 
@@ -17,17 +19,24 @@ pub(crate) enum Halt {
 }
 
 /// Begins the run and executes its schedule: the state in which it ends.
-pub(crate) fn run_through(alloc: Global, protocol: &Protocol, run: &Run) -> Result<RunState, Halt>
+pub(crate) fn run_through(
+    alloc: Global,
+    th: &Theory,
+    protocol: &Protocol,
+    run: &Run,
+) -> Result<RunState, Halt>
+    requires cancelling { AllCancel th.now }
     requires protocol { IsWellFormedProtocol protocol.now }
     requires run { IsWellFormedRun protocol.now.sig run.now }
-    ensures { RunsThrough canonical protocol.now run.now result }
+    ensures { RunsThrough (normalized th.now) protocol.now run.now result }
 {
-    let mut state = match RunState::start(alloc, protocol, &run.instances) {
+    let mut state = match RunState::start(alloc, th, protocol, &run.instances) {
         Ok(state) => state,
         Err(fail) => return Err(halted(0, fail)),
     };
     match execute(
         alloc,
+        th,
         protocol,
         &run.instances,
         run.schedule.as_slice(),
@@ -41,18 +50,20 @@ pub(crate) fn run_through(alloc: Global, protocol: &Protocol, run: &Run) -> Resu
 // Executes the schedule step by step.
 fn execute(
     alloc: Global,
+    th: &Theory,
     protocol: &Protocol,
     instances: &Instances,
     schedule: &[u32],
     state: &mut RunState,
 ) -> Result<(), Halt>
-    requires begun { IsAfter canonical protocol.now.strands instances.now [] state.old }
+    requires cancelling { AllCancel th.now }
+    requires begun { IsAfter (normalized th.now) protocol.now.strands instances.now [] state.old }
     requires few { length schedule.now < 2 ^ 32 }
     requires countable { AreCountable protocol.now.strands }
-    ensures { Ends canonical protocol.now.strands instances.now schedule.now state.new result }
+    ensures { Ends (normalized th.now) protocol.now.strands instances.now schedule.now state.new result }
 {
     for k in 0..schedule.len() {
-        match step_run(alloc, protocol, instances, state, schedule[k]) {
+        match step_run(alloc, th, protocol, instances, state, schedule[k]) {
             Ok(()) => {}
             Err(fail) => return Err(halted(k as u32 + 1, fail)),
         }

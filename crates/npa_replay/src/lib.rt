@@ -6,13 +6,18 @@ mod answer;
 mod candidates;
 mod choice;
 mod execution;
+mod group;
 mod inhabited;
+mod links;
 mod replaying;
+mod room;
 mod scene;
 mod search;
 
 pub use answer::Replay;
 pub use replaying::replay;
 
+#[cfg(test)]
+mod search_tests;
 #[cfg(test)]
 mod tests;

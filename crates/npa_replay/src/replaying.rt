@@ -1,34 +1,45 @@
 ghost use Rattle.std.specs.Prelude.{◌≡◌, ◌<◌, ◌^◌, [], length, IfOk};
-ghost use Rattle.npa_term.specs.Canonical.{canonical};
+ghost use Rattle.npa_rewrite.specs.Rewriting.{AllCancel};
 ghost use Rattle.npa_model.specs.WellFormed.{IsWellFormedProtocol, IsWellFormedAim, IsWellFormedRun};
 ghost use Rattle.npa_replay.specs.Choices.{IsMost};
-ghost use Rattle.npa_replay.specs.Replays.{IsTrueOf, Stops};
+ghost use Rattle.npa_replay.specs.Replays.{IsTrueOf, OfNormalForms, Stops};
 
 use crate::answer::Replay;
-use crate::candidates::all_candidates;
-use crate::choice::Choice;
 use crate::execution::{Halt, run_through};
 use crate::inhabited::have_ground_terms;
 use crate::scene::Scene;
 use crate::search::most_met;
 use npa_model::{Aim, Run, RunState};
+use npa_rewrite::Theory;
 use npa_sig::Protocol;
 use npa_term::NoMemory;
 use std::alloc::Global;
 
-/// Replays a run against an aim. The instances are judged first, then each step of the schedule,
-/// then the parts of the aim, each in its order; the first fault is answered. A part is missed
-/// where no ground terms for the aim's variables and no choice of different instances meet it
-/// beside the parts before it. A run that reaches the aim, breaks or misses a part does just one of
-/// these.
-pub fn replay(alloc: Global, protocol: &Protocol, aim: &Aim, run: &Run) -> Result<Replay, NoMemory>
+/// Replays a run against an aim, modulo the equations of a theory. The instances are judged first,
+/// then each step of the schedule, then the parts of the aim, each in its order; the first fault is
+/// answered. A part is missed where no normal ground terms for the aim's variables and no choice of
+/// different instances meet it beside the parts before it. A run that reaches the aim, breaks or
+/// misses a part does just one of these.
+///
+/// The answer is promised where the theory is convergent, so that each term has one normal form,
+/// and the aim is accepted, so that its instances by normal terms are normal and can be found by
+/// matching.
+pub fn replay(
+    alloc: Global,
+    th: &Theory,
+    protocol: &Protocol,
+    aim: &Aim,
+    run: &Run,
+) -> Result<Replay, NoMemory>
+    requires signature { th.now.sig ≡ protocol.now.sig }
+    requires cancelling { AllCancel th.now }
     requires protocol { IsWellFormedProtocol protocol.now }
     requires aim { IsWellFormedAim protocol.now.sig protocol.now.strands aim.now }
     requires run { IsWellFormedRun protocol.now.sig run.now }
-    ensures answer { IfOk result (λ answer. IsTrueOf canonical protocol.now aim.now run.now answer) }
-    ensures only { IfOk result (λ answer. (other : Replay) → IsTrueOf canonical protocol.now aim.now run.now other → other ≡ answer) }
+    ensures answer { IfOk result (λ answer. OfNormalForms th.now aim.now (λ nf. IsTrueOf nf protocol.now aim.now run.now answer)) }
+    ensures only { IfOk result (λ answer. OfNormalForms th.now aim.now (λ nf. (other : Replay) → IsTrueOf nf protocol.now aim.now run.now other → other ≡ answer)) }
 {
-    let state = match run_through(alloc, protocol, run) {
+    let state = match run_through(alloc, th, protocol, run) {
         Ok(state) => state,
         Err(halt) => return stopped(halt),
     };
@@ -62,9 +73,7 @@ fn parts_met(
         state,
         parts: aim.parts.as_slice(),
     };
-    let candidates = all_candidates(alloc, &scene)?;
-    let mut choice = Choice::new(alloc);
-    most_met(alloc, &scene, candidates.as_slice(), 0, &mut choice)
+    most_met(alloc, &scene)
 }
 
 // The answer about a run that breaks.

@@ -1,7 +1,8 @@
-ghost use Rattle.std.specs.Prelude.{◌≡◌, ◌<◌, ◌^◌, ◌↔◌, ◌++◌, [], ◌∷◌, length, zip, IsTrue, OnOk};
-ghost use Rattle.npa_replay.specs.Choices.{IsAt, IsTarget, target_pairs};
+ghost use Rattle.std.specs.Prelude.{◌≡◌, ◌<◌, ◌^◌, ◌↔◌, ◌++◌, ℕ, [], ◌∷◌, length, slice_index, zip, Contains, IsTrue, OnOk};
+ghost use Rattle.npa_replay.specs.Choices.{AreAllCandidates, IsAt, IsTarget, target_pairs};
 ghost use Rattle.npa_model.specs.State.{done_of};
 
+use npa_list::List;
 use npa_model::{Instances, Part, RunState};
 use npa_sorts::Sorts;
 use npa_term::{NoMemory, Term, TermPairs, copy};
@@ -48,6 +49,24 @@ fn has_executed(state: &RunState, place: usize, bar: u16) -> bool
     ensures { IsTrue result ↔ (done_of state.now place ≡ bar) }
 {
     state.executed(place as u32) == Some(bar)
+}
+
+/// One of the places, which is that of a part and of its candidates.
+#[tactic(auto, using(crate::proofs::Searching::inside_at))]
+pub(crate) fn place_at(
+    scene: &Scene<'_>,
+    candidates: &[List<usize>],
+    places: &[usize],
+    at: usize,
+) -> usize
+    requires within { at < length places.now }
+    requires places { (i : ℕ) → Contains places.now i → i < length scene.now.parts.now }
+    requires candidates { AreAllCandidates scene.now.instances.now scene.now.state.now scene.now.sorts.now scene.now.parts.now candidates.now }
+    ensures value { result ≡ slice_index places.now at }
+    ensures part { result < length scene.now.parts.now }
+    ensures candidates { result < length candidates.now }
+{
+    places[at]
 }
 
 /// Adds the pairs of terms that are to be equal where the part is met by the target.

@@ -1,7 +1,6 @@
-use Rattle.std.proofs.Common.{Option, None, Some, Ok, Err, subst}
+use Rattle.std.proofs.Common.{Option, Ok, Err, subst}
 use Rattle.npa_term.specs.declared.term.Term.{Term}
 use Rattle.npa_sig.specs.declared.fault.LeastFail.{LeastFail}
-use Rattle.npa_sig.specs.declared.fault.LeastFail.TheVariants.{Past}
 use Rattle.npa_sig.specs.Least.{IsLeastOf}
 use Rattle.npa_replay.proofs.Judging.{none_wanted, from_least, from_past}
 use Rattle.npa_replay.proofs.inhabited.is_wanting.Goals as goal

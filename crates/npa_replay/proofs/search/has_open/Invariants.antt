@@ -1,9 +1,0 @@
-use Rattle.std.proofs.Common.{◌≡◌, ◌<◌, ℕ, slice_index}
-use Rattle.npa_replay.specs.Choices.{IsOpen}
-use Rattle.npa_replay.proofs.search.has_open.Given as goal
-
-abbrev pub invariant-loop-place : goal.invariant-loop-place
-invariant-loop-place l = record {
-  kept : l.choice ≡ l.initial.choice;
-  closed : (i : ℕ) → i < l.place-index → IsOpen l.scene.instances.now l.scene.state.now l.scene.sorts.now l.initial.choice.used l.initial.choice.pairs l.part (slice_index l.candidates i) → ⊥;
-}
