@@ -1,5 +1,5 @@
 -- An aim of a module text has a part, since the grammar asks for one.
-use Rattle.std.proofs.Common.{◌≡◌, ℕ, zero, suc, ◌+◌, ◌<◌, ◌≤◌, ◌==◌, Bool, true, false, cond, List, [], ◌∷◌, ◌++◌, Option, None, Some, map, filter, find, length, refl, ap, sym, ◌∙◌, subst, arith, length-append, ◌⊎◌, inl, inr}
+use Rattle.std.proofs.Common.{◌≡◌, ℕ, zero, suc, ◌+◌, ◌≤◌, ◌==◌, Bool, true, false, cond, List, [], ◌∷◌, ◌++◌, Some, map, length, refl, ap, sym, ◌∙◌, subst, arith, length-append, ◌⊎◌, inl, inr}
 use Rattle.std.specs.Prelude.{slice_get}
 use Rattle.std.specs.Option.{option_map_or}
 use Rattle.npa_syntax.specs.declared.production.Occurrence.TheVariants.{Once, Optional, Repeated}
@@ -8,17 +8,15 @@ use Rattle.npa_syntax.specs.declared.node.Terminal.{Terminal}
 use Rattle.npa_syntax.specs.declared.node.Node.{Node, out-roll-Node}
 use Rattle.npa_syntax.specs.Grammars.{Nonterminal, Piece, Rules, Spells, nothing, without, taking, is_needed, is_repeated, leaving, tree}
 use Rattle.npa_syntax.specs.Nodes.{symbol_of, head_of, children_of, first_with}
-use Rattle.npa_syntax.specs.Tables.{piece, parts_of, room_in, pieces_in}
-use Rattle.npa_syntax.specs.Languages.{rules_in, start_in}
+use Rattle.npa_syntax.specs.Tables.{piece}
+use Rattle.npa_syntax.specs.Languages.{rules_in}
 use Rattle.npa_text.specs.declared.symbols.TheConstants as symbol
 use Rattle.npa_text.specs.declared.terminals.TheConstants as terminal
 use Rattle.npa_text.specs.declared.token.Token.{Token}
-use Rattle.npa_text.specs.Languages.{module_rules, module_language}
+use Rattle.npa_text.specs.Languages.{module_language}
 use Rattle.npa_text.specs.Parses.{IsParse}
 use Rattle.npa_module.specs.Trees.{all_with, listed, below}
-use Rattle.npa_module.specs.Limits.{is_aim}
 use Rattle.npa_module.specs.Later.{items_of}
-use Rattle.npa_module.specs.Items.{part_nodes}
 use Rattle.npa_module.proofs.Formed.{EachOf}
 use Rattle.npa_module.proofs.FormedModules.{HasParts, AllHaveParts}
 

@@ -1,9 +1,7 @@
 -- A module that is answered is well formed.
-use Rattle.std.proofs.Common.{◌≡◌, ℕ, List, Option, None, Some, Result, Ok, Err, refl, ⊎_elim, ◌⊎◌, inl, inr}
+use Rattle.std.proofs.Common.{◌≡◌, ℕ, List, Option, None, Some, Result, Ok, Err, refl, ⊎_elim}
 use Rattle.std.specs.Prelude.{IfOk}
 use Rattle.std.specs.Option.{option_map}
-use Rattle.npa_syntax.specs.declared.node.Node.{Node}
-use Rattle.npa_text.specs.declared.token.Token.{Token}
 use Rattle.npa_module.specs.declared.source.Source.{Source}
 use Rattle.npa_module.specs.declared.source.LimitPart.{LimitPart}
 use Rattle.npa_module.specs.declared.source.ReadError.{ReadError}

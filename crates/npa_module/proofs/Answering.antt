@@ -1,5 +1,5 @@
 -- Bytes are read as one thing: the trees of a text, and the first fault of other bytes, are one.
-use Rattle.std.proofs.Common.{◌≡◌, ◌⊎◌, inl, inr, ℕ, List, Result, Ok, Err, refl, ap, sym, ◌∙◌, subst}
+use Rattle.std.proofs.Common.{◌≡◌, inl, inr, ℕ, List, Result, Ok, Err, ap, sym, ◌∙◌, subst}
 use Rattle.npa_syntax.specs.declared.node.Node.{Node}
 use Rattle.npa_text.specs.declared.token.Token.{Token}
 use Rattle.npa_text.specs.declared.parser.Parsed.{Parsed}

@@ -1,14 +1,10 @@
 -- What is read of a module text is well formed.
-use Rattle.std.proofs.Common.{◌≡◌, ◌≢◌, ℕ, zero, suc, ◌+◌, ◌<◌, ◌≤◌, ◌==◌, ◌&&◌, ◌||◌, not, nat_lt, Bool, true, false, cond, List, [], ◌∷◌, ◌++◌, Option, None, Some, Result, Ok, Err, map, filter, length, get_or, replicate, refl, ap, sym, ◌∙◌, subst, arith, All, Contains, is_none, option_map, length-append, bytes_eq}
+use Rattle.std.proofs.Common.{◌≡◌, ℕ, zero, suc, ◌+◌, ◌<◌, ◌==◌, nat_lt, Bool, true, false, cond, List, [], ◌∷◌, Option, None, Some, Result, Ok, Err, map, length, get_or, refl, ap, sym, ◌∙◌, subst, arith, All, Contains, is_none, option_map, bytes_eq}
 use Rattle.std.specs.Prelude.{slice_get, unwrap_or}
-use Rattle.std.proofs.lemmas.List.{length-map, length-replicate}
-use Rattle.std.proofs.lemmas.List.Elements.{Contains-push_cases}
 use Rattle.std.proofs.lemmas.Slice.Eq.{bytes_eq-Decides}
 use Rattle.npa_syntax.specs.declared.node.Node.{Node}
-use Rattle.npa_syntax.specs.Nodes.{children_of}
 use Rattle.npa_text.specs.declared.token.Token.{Token}
 use Rattle.npa_text.specs.declared.token.Raw.{Raw, out-Raw}
-use Rattle.npa_text.specs.declared.symbols.TheConstants as symbol
 use Rattle.npa_text.specs.Raws.{token_at}
 use Rattle.npa_text.specs.Texts.{text_of}
 use Rattle.npa_names.specs.Names.{place_of}
@@ -16,22 +12,19 @@ use Rattle.npa_term.specs.declared.term.Var.{Var as Variable_}
 use Rattle.npa_term.specs.declared.term.Term.{Term}
 use Rattle.npa_term.specs.Variables.{variables}
 use Rattle.npa_sig.specs.declared.fault.UseFail.{UseFail}
-use Rattle.npa_sig.specs.declared.meaning.Scoped.{Scoped}
-use Rattle.npa_sig.specs.declared.signature.OpDecl.{OpDecl}
-use Rattle.npa_sig.specs.Signature.{Signature, is_pair as is_sort_pair, with_op}
-use Rattle.npa_sig.specs.Sorting.{is_sort as is_sort_number, sort_of, well_sorted}
+use Rattle.npa_sig.specs.Signature.{Signature, is_pair as is_sort_pair}
+use Rattle.npa_sig.specs.Sorting.{is_sort as is_sort_number, sort_of}
 use Rattle.npa_sig.specs.Meaning.{read, IsSorted, scope_variables}
 use Rattle.npa_sig.proofs.Sorted.{sorted_answer, own_answer}
-use Rattle.npa_model.specs.WellFormed.{IsOwn, IsTermOver, IsMessageOver, AreSorts}
+use Rattle.npa_model.specs.WellFormed.{IsTermOver, IsMessageOver, AreSorts}
 use Rattle.npa_module.specs.declared.source.ReadError.{ReadError}
 use Rattle.npa_module.specs.declared.draft.Draft.{Draft}
-use Rattle.npa_module.specs.declared.scopes.Binders.{Binders}
-use Rattle.npa_module.specs.Trees.{word_at, first_token}
+use Rattle.npa_module.specs.Trees.{word_at}
 use Rattle.npa_module.specs.Drafts.{sort_number}
-use Rattle.npa_module.specs.Refusals.{told_if, first_of, unless, then_read, in_front, all_read, use_refusal, name_refusal, sort_refusal}
-use Rattle.npa_module.specs.Items.{is_pair, scope_from, sort_named, one_sort_read, not_fresh, sorts_read, term_from, term_read, message, message_read}
+use Rattle.npa_module.specs.Refusals.{told_if, first_of, unless, in_front, all_read, name_refusal}
+use Rattle.npa_module.specs.Items.{is_pair, scope_from, sort_named, one_sort_read, sorts_read, term_from, term_read, message, message_read}
 use Rattle.npa_module.specs.Rooms.{IsNamed}
-use Rattle.npa_module.proofs.Growth.{ok_unless, Behind, ok_then}
+use Rattle.npa_module.proofs.Growth.{ok_unless, ok_then}
 
 abbrev pub OkOf : {A : Type 0} → A → Result A ReadError
 OkOf x = Ok x
@@ -178,7 +171,7 @@ scope_own ns ss v h =
     let q : v.num ≡ p.place = (let e = p.number in omega (arith, e)) in
     ap (slice_get ss) q ∙ p.sort
 
-got_contained : (ss : List ℕ) (k s : ℕ) → slice_get ss k ≡ Some s → Contains ss s
+pub got_contained : (ss : List ℕ) (k s : ℕ) → slice_get ss k ≡ Some s → Contains ss s
 got_contained [] k s e = absurd (cc)
 got_contained (x ∷ ss) zero s e = let q : x ≡ s = cc in (0, omega arith, q)
 got_contained (x ∷ ss) (suc k) s e = further (got_contained ss k s e)

@@ -1,6 +1,7 @@
 -- Each item that is read keeps the module well formed.
-use Rattle.std.proofs.Common.{◌≡◌, ◌≢◌, ℕ, zero, suc, ◌+◌, ◌<◌, ◌≤◌, ◌^◌, ◌==◌, ◌&&◌, ◌||◌, not, nat_lt, Bool, true, false, cond, List, [], ◌∷◌, ◌++◌, Option, None, Some, Result, Ok, Err, map, filter, length, get_or, replicate, refl, ap, sym, ◌∙◌, subst, arith, Contains, is_none, is_some, length-append, bytes_eq, ⊎_elim, ◌⊎◌, inl, inr}
+use Rattle.std.proofs.Common.{◌≡◌, ℕ, zero, suc, ◌+◌, ◌<◌, ◌≤◌, ◌==◌, ◌&&◌, ◌||◌, not, nat_lt, Bool, true, false, cond, if◌then◌else◌, List, [], ◌∷◌, ◌++◌, Option, None, Some, Result, Ok, Err, map, filter, length, replicate, refl, ap, sym, ◌∙◌, subst, arith, is_some, length-append, bytes_eq, ⊎_elim}
 use Rattle.std.specs.Prelude.{slice_get}
+use Rattle.std.specs.Option.{option_and_then}
 use Rattle.std.proofs.lemmas.List.{length-map, length-replicate, get_or-replicate}
 use Rattle.std.proofs.lemmas.List.Elements.{Contains-push_cases, Contains-append_cases}
 use Rattle.npa_syntax.specs.declared.node.Node.{Node}
@@ -14,30 +15,30 @@ use Rattle.npa_text.specs.Texts.{text_of, number_of as number_in}
 use Rattle.npa_term.specs.declared.term.Term.{Term}
 use Rattle.npa_sig.specs.declared.meaning.Scoped.{Scoped}
 use Rattle.npa_sig.specs.declared.signature.OpDecl.{OpDecl}
+use Rattle.npa_sig.specs.declared.protocol.Equation.{Equation}
 use Rattle.npa_sig.specs.declared.protocol.Event.{Event}
 use Rattle.npa_sig.specs.declared.protocol.Strand.{Strand}
 use Rattle.npa_sig.specs.Signature.{Signature, number_of, is_pair as is_sort_pair}
 use Rattle.npa_names.specs.Names.{place_of}
-use Rattle.npa_sig.specs.Least.{HasSorts, AreSorts as AreSortsOf}
+use Rattle.npa_sig.specs.Least.{HasSorts}
 use Rattle.npa_sig.specs.Sorting.{is_sort as is_sort_number, is_below, sort_of, all_below}
 use Rattle.npa_sig.specs.Meaning.{read, sort_at, one_fits}
 use Rattle.npa_sig.proofs.Sorted.{told_answer}
 use Rattle.npa_model.specs.declared.aim.Part.{Part}
-use Rattle.npa_model.specs.declared.aim.Part.TheVariants as part
 use Rattle.npa_model.specs.declared.aim.Aim.{Aim}
 use Rattle.npa_model.specs.Instances.{param_sorts}
-use Rattle.npa_model.specs.WellFormed.{IsTermOver, IsMessageOver, AreSorts, IsWellFormedStrand, IsStrandPart, IsWellFormedPart, IsWellFormedAim}
+use Rattle.npa_model.specs.WellFormed.{IsTermOver, IsMessageOver, AreSorts, IsWellFormedEquation, IsWellFormedStrand, IsWellFormedPart, IsWellFormedAim}
 use Rattle.npa_module.specs.declared.source.ReadError.{ReadError}
 use Rattle.npa_module.specs.declared.draft.Draft.{Draft}
 use Rattle.npa_module.specs.declared.scopes.Binders.{Binders}
-use Rattle.npa_module.specs.Trees.{has, all_with, kind_of, word_at, first_token, raw_below}
-use Rattle.npa_module.specs.Drafts.{sort_number, strand_number}
-use Rattle.npa_module.specs.Refusals.{told_if, first_of, unless, then_read, in_front, all_read, name_refusal, sort_refusal}
+use Rattle.npa_module.specs.Trees.{has, all_with, kind_of, word_at, first_token, raw_below, after}
+use Rattle.npa_module.specs.Drafts.{strand_number}
+use Rattle.npa_module.specs.Refusals.{told_if, then_read, in_front, name_refusal, sort_refusal}
 use Rattle.npa_module.specs.Limits.{number, is_known, is_strand_part, params_of}
-use Rattle.npa_module.specs.Items.{unbound, bound, behind, is_taken, scope_from, scope_of, parameters, variable_nodes, fresh_nodes, event_nodes, part_nodes, parameter_nodes, is_pair, one_sort_read, not_fresh, result_read, sorts_read, op_with, op_over, op_fault, operator_read, fresh_read, variable_read, variables_read, term_read, message_read, event_with, event_read, events_read, strand_with, strand_over, strand_behind, one_strand_read, argument_fault, argument_read, arguments_read, strand_part_with, strand_part_over, strand_part_at, strand_part_read, known_part, part_read, parts_read, aim_with, aim_over, one_aim_read}
+use Rattle.npa_module.specs.Items.{unbound, bound, sort_in, met, occurring, words_in, equation_with, right_read, equation_over, one_equation_read, behind, is_taken, scope_from, scope_of, parameters, variable_nodes, fresh_nodes, event_nodes, part_nodes, parameter_nodes, is_pair, one_sort_read, not_fresh, op_with, op_over, op_fault, operator_read, fresh_read, variable_read, variables_read, term_read, message_read, event_with, event_read, events_read, strand_with, strand_over, strand_behind, one_strand_read, argument_fault, argument_read, arguments_read, strand_part_with, strand_part_over, strand_part_at, strand_part_read, known_part, part_read, parts_read, aim_with, aim_over, one_aim_read}
 use Rattle.npa_module.specs.Rooms.{IsNamed}
-use Rattle.npa_module.proofs.Growth.{ok_unless, Behind, ok_then, same_length}
-use Rattle.npa_module.proofs.Formed.{OkOf, ok_is, none_unless, untold, untold_first, untold_rest, EachOf, each_member, each_read, sort_is, sort_is_number, pair_is, read_ok, term_over, message_over}
+use Rattle.npa_module.proofs.Growth.{ok_unless, ok_then, same_length}
+use Rattle.npa_module.proofs.Formed.{OkOf, got_contained, ok_is, none_unless, untold, untold_first, untold_rest, EachOf, each_member, each_read, sort_is, sort_is_number, pair_is, read_ok, term_over, message_over}
 
 both : (a b : Bool) → a ≡ true → b ≡ true → (a && b) ≡ true
 both true true p q = refl
@@ -176,6 +177,50 @@ module _ (bytes : List ℕ) (tokens : List Token) where
     event_formed ns ss are n event e =
         let m = ok_then (event_with n) _ event e in
         subst (λ (x : Event). IsMessageOver d.sig ss x.msg) (ok_is _ event m.gives) (message_over bytes d.sig ns ss are (raw_below tokens symbol.TERM (children_of n)) m.value m.is)
+
+    -- ## An equation
+
+    met_bound : (vars found : Binders) (word : List ℕ) (o : Option ℕ) → ((s : ℕ) → o ≡ Some s → is_sort_number d.sig s ≡ true) → IsBound d.sig found → IsBound d.sig (met found word o)
+    met_bound vars found word None sort is = is
+    met_bound vars found word (Some s) sort is = split (is_some (place_of word found.earlier))
+      where
+        split : (b : Bool) → IsBound d.sig (if b then found else bound found word s)
+        split true = is
+        split false =
+            let one : length (found.names ++ word ∷ []) ≡ length found.names + 1 = length-append found.names (word ∷ []) in
+            let two : length (found.sorts ++ s ∷ []) ≡ length found.sorts + 1 = length-append found.sorts (s ∷ []) in
+            let even = is.same in
+            record { sorts = sorts_with d.sig found.sorts s is.sorts (sort s refl); same = omega (arith, one, two, even) }
+
+    sort_in_is : (vars : Binders) (word : List ℕ) → AreSorts d.sig vars.sorts → (s : ℕ) → sort_in vars word ≡ Some s → is_sort_number d.sig s ≡ true
+    sort_in_is vars word are s e = split (place_of word vars.names) e
+      where
+        split : (o : Option ℕ) → option_and_then (slice_get vars.sorts) o ≡ Some s → is_sort_number d.sig s ≡ true
+        split None q = absurd (cc)
+        split (Some k) q = are s (got_contained vars.sorts k s q)
+
+    occurring_bound : (vars : Binders) (words : List (List ℕ)) (found : Binders) → AreSorts d.sig vars.sorts → IsBound d.sig found → IsBound d.sig (occurring vars found words)
+    occurring_bound vars [] found are is = is
+    occurring_bound vars (w ∷ ws) found are is =
+        occurring_bound vars ws (met found w (sort_in vars w)) are (met_bound vars found w (sort_in vars w) (sort_in_is vars w are) is)
+
+    pub equation_formed : (nodes : List Node) (equation : Equation) → one_equation_read bytes tokens d nodes ≡ Ok equation → IsWellFormedEquation d.sig equation
+    equation_formed nodes equation e =
+        let left : Raw = raw_below tokens symbol.TERM nodes in
+        let right : Raw = raw_below tokens symbol.TERM (after symbol.EQUALS_MARK nodes) in
+        let vars = ok_then (equation_over bytes tokens d nodes) (variables_read bytes tokens d unbound (variable_nodes nodes)) equation e in
+        let bounds = vars_bound (variable_nodes nodes) unbound vars.value (none_bound d.sig unbound refl refl) vars.is in
+        let words : List (List ℕ) = words_in bytes left ++ words_in bytes right in
+        let found : Binders = occurring vars.value unbound words in
+        let own = occurring_bound vars.value words unbound bounds.bound_is.sorts (none_bound d.sig unbound refl refl) in
+        let l = ok_then (right_read bytes d.sig (scope_of found) right) (message_read bytes d.sig (scope_of found) left) equation vars.gives in
+        let r = ok_then (equation_with l.value) (message_read bytes d.sig (scope_of found) right) equation l.gives in
+        subst (IsWellFormedEquation d.sig) (ok_is _ equation r.gives) (record {
+          sorts = found.sorts;
+          are_sorts = own.sorts;
+          left = message_over bytes d.sig found.names found.sorts own.sorts left l.value l.is;
+          right = message_over bytes d.sig found.names found.sorts own.sorts right r.value r.is;
+        })
 
     pub strand_formed : (intruder : Bool) (nodes : List Node) (strand : Strand) → length (event_nodes nodes) ≤ 32 → params_of nodes ≤ 64 → one_strand_read bytes tokens d intruder nodes ≡ Ok strand → IsGoodStrand strand
     strand_formed intruder nodes strand few_events few_params e =

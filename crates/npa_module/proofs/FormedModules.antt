@@ -1,5 +1,5 @@
 -- A module that is read is well formed, item by item.
-use Rattle.std.proofs.Common.{◌≡◌, ℕ, zero, suc, ◌+◌, ◌<◌, ◌≤◌, ◌==◌, Bool, true, false, cond, List, [], ◌∷◌, ◌++◌, Option, None, Some, Result, Ok, Err, length, is_some, refl, ap, sym, ◌∙◌, subst, arith, Contains}
+use Rattle.std.proofs.Common.{◌≡◌, ℕ, zero, suc, ◌+◌, ◌<◌, ◌≤◌, ◌==◌, Bool, true, false, cond, List, [], ◌∷◌, ◌++◌, None, Some, Result, Ok, length, is_some, refl, ap, sym, ◌∙◌, subst, arith}
 use Rattle.std.specs.Prelude.{slice_get}
 use Rattle.npa_syntax.specs.declared.node.Node.{Node}
 use Rattle.npa_syntax.specs.Nodes.{children_of}
@@ -9,7 +9,7 @@ use Rattle.npa_text.specs.declared.symbols.TheConstants as symbol
 use Rattle.npa_text.specs.Texts.{text_of}
 use Rattle.npa_term.specs.declared.term.Term.{Term}
 use Rattle.npa_sig.specs.declared.signature.OpDecl.{OpDecl}
-use Rattle.npa_sig.specs.declared.protocol.Event.{Event}
+use Rattle.npa_sig.specs.declared.protocol.Equation.{Equation}
 use Rattle.npa_sig.specs.declared.protocol.Strand.{Strand}
 use Rattle.npa_sig.specs.Signature.{Signature, is_pair as is_sort_pair, with_op, with_subsort, with_sort as sig_with_sort}
 use Rattle.npa_sig.specs.Least.{HasSorts}
@@ -18,23 +18,23 @@ use Rattle.npa_model.specs.declared.aim.Part.{Part}
 use Rattle.npa_model.specs.declared.aim.Part.TheVariants as part
 use Rattle.npa_model.specs.declared.aim.Aim.{Aim}
 use Rattle.npa_model.specs.Instances.{param_sorts}
-use Rattle.npa_model.specs.WellFormed.{IsTermOver, IsMessageOver, AreSorts, IsWellFormedStrand, IsWellFormedSignature, IsStrandPart, IsWellFormedPart, IsWellFormedAim, AreWellFormedStrands}
+use Rattle.npa_model.specs.WellFormed.{IsTermOver, IsMessageOver, AreSorts, IsWellFormedEquation, IsWellFormedStrand, IsWellFormedSignature, IsWellFormedPart, IsWellFormedAim}
 use Rattle.npa_module.specs.declared.source.Source.{Source}
 use Rattle.npa_module.specs.declared.source.ReadError.{ReadError}
 use Rattle.npa_module.specs.declared.draft.Draft.{Draft}
 use Rattle.npa_module.specs.Trees.{kind_of, word_of, below, first_token}
-use Rattle.npa_module.specs.Drafts.{nothing, with_sort, with_pair, with_operator, with_strand, with_aim, sort_number}
-use Rattle.npa_module.specs.Refusals.{told_if, name_refusal, unless, then_read}
-use Rattle.npa_module.specs.Limits.{limit_of, number, is_known, is_strand_part, params_of, is_sort, is_op, is_strand, is_aim}
+use Rattle.npa_module.specs.Drafts.{nothing, with_sort, with_pair, with_operator, with_equation, with_strand, with_aim, sort_number}
+use Rattle.npa_module.specs.Refusals.{told_if, name_refusal}
+use Rattle.npa_module.specs.Limits.{limit_of, number, is_known, is_strand_part, params_of, is_sort, is_op, is_eq, is_strand, is_aim}
 use Rattle.npa_module.specs.Later.{items_of}
-use Rattle.npa_module.specs.Items.{part_nodes, event_nodes, sort_named, subsort_fault, sort_read, subsort_read, op_read, operator_read, operator_declared, strand_read, one_strand_read, strand_declared, aim_read, one_aim_read, aim_declared, item_read, items_read}
+use Rattle.npa_module.specs.Items.{part_nodes, event_nodes, sort_named, subsort_fault, sort_read, subsort_read, op_read, operator_read, operator_declared, equation_read, one_equation_read, equation_declared, strand_read, one_strand_read, strand_declared, aim_read, one_aim_read, aim_declared, item_read, items_read}
 use Rattle.npa_module.specs.Within.{IsItemWithin}
 use Rattle.npa_module.specs.Rooms.{IsNamed, HaveRoom}
 use Rattle.npa_module.specs.Modules.{source_of, finished}
 use Rattle.npa_module.specs.Forms.{AreWellFormedAims, IsWellFormedSource}
-use Rattle.npa_module.proofs.Growth.{ok_unless, Behind, ok_then, Grown, item_grows, room_behind, room_at_first}
+use Rattle.npa_module.proofs.Growth.{ok_unless, ok_then, room_behind, room_at_first}
 use Rattle.npa_module.proofs.Formed.{ok_is}
-use Rattle.npa_module.proofs.FormedItems.{IsGoodDecl, IsGoodStrand, operator_formed, strand_formed, aim_formed}
+use Rattle.npa_module.proofs.FormedItems.{IsGoodStrand, operator_formed, equation_formed, strand_formed, aim_formed}
 
 -- ## What stays well formed while a signature grows
 
@@ -47,6 +47,14 @@ module _ (small large : Signature) (grows : Grows small large) where
 
   sorts_still : (sorts : List ℕ) → AreSorts small sorts → AreSorts large sorts
   sorts_still sorts are s h = grows.sorts s (are s h)
+
+  equation_still : (equation : Equation) → IsWellFormedEquation small equation → IsWellFormedEquation large equation
+  equation_still equation x = record {
+    sorts = x.sorts;
+    are_sorts = sorts_still x.sorts x.are_sorts;
+    left = message_still x.sorts equation.left x.left;
+    right = message_still x.sorts equation.right x.right;
+  }
 
   pub strand_still : (strand : Strand) → IsWellFormedStrand small strand → IsWellFormedStrand large strand
   strand_still strand x = record {
@@ -93,6 +101,7 @@ earlier_still (z ∷ xs) x (suc k) y e = earlier_still xs x k y e
 
 pub record IsFormed (d : Draft) : Type 0 where
   pub signature : IsWellFormedSignature d.sig
+  pub equations : (k : ℕ) (equation : Equation) → slice_get d.equations k ≡ Some equation → IsWellFormedEquation d.sig equation
   pub strands : (k : ℕ) (strand : Strand) → slice_get d.strands.list k ≡ Some strand → IsWellFormedStrand d.sig strand
   pub named_so : (k : ℕ) (strand : Strand) → slice_get d.strands.list k ≡ Some strand → length strand.names ≡ length (param_sorts strand)
   pub aims : AreWellFormedAims d.sig d.strands.list d.aims.list
@@ -100,6 +109,7 @@ pub record IsFormed (d : Draft) : Type 0 where
 pub formed_at_first : IsFormed nothing
 formed_at_first = record {
   signature = record { sorts = λ k decl e. absurd (cc); pairs = λ k decl e t. absurd (cc) };
+  equations = λ k equation e. absurd (cc);
   strands = λ k strand e. absurd (cc);
   named_so = λ k strand e. absurd (cc);
   aims = λ k aim e. absurd (cc);
@@ -113,12 +123,13 @@ module _ (bytes : List ℕ) (tokens : List Token) (d e : Draft) (named : IsNamed
   good : (k : ℕ) (strand : Strand) → slice_get d.strands.list k ≡ Some strand → IsGoodStrand bytes tokens d named strand
   good k strand is = record { formed = formed.strands k strand is; named_so = formed.named_so k strand is }
 
-  grown_sig : (sig : Signature) → Grows d.sig sig → IsWellFormedSignature sig → sig ≡ e.sig → d.strands ≡ e.strands → d.aims ≡ e.aims → IsFormed e
-  grown_sig sig grows signature same strands aims =
+  grown_sig : (sig : Signature) → Grows d.sig sig → IsWellFormedSignature sig → sig ≡ e.sig → d.equations ≡ e.equations → d.strands ≡ e.strands → d.aims ≡ e.aims → IsFormed e
+  grown_sig sig grows signature same equations strands aims =
       let large : Grows d.sig e.sig = subst (Grows d.sig) same grows in
       let lists = ap (λ x. x.list) strands in
       record {
         signature = subst IsWellFormedSignature same signature;
+        equations = λ k equation q. equation_still d.sig e.sig large equation (formed.equations k equation (ap (λ (x : List Equation). slice_get x k) equations ∙ q));
         strands = λ k strand q. strand_still d.sig e.sig large strand (formed.strands k strand (ap (λ (x : List Strand). slice_get x k) lists ∙ q));
         named_so = λ k strand q. formed.named_so k strand (ap (λ (x : List Strand). slice_get x k) lists ∙ q);
         aims = λ k aim q.
@@ -142,7 +153,7 @@ module _ (bytes : List ℕ) (tokens : List Token) (d e : Draft) (named : IsNamed
         sorts = sorts_kept (d.sig.sorts.declared + 1) formed.signature (omega arith);
         pairs = formed.signature.pairs;
       })
-      (ap (λ (x : Draft). x.sig) same) (ap (λ (x : Draft). x.strands) same) (ap (λ (x : Draft). x.aims) same)
+      (ap (λ (x : Draft). x.sig) same) (ap (λ (x : Draft). x.equations) same) (ap (λ (x : Draft). x.strands) same) (ap (λ (x : Draft). x.aims) same)
 
   subsort_kept : (nodes : List Node) → subsort_read bytes tokens d nodes ≡ Ok e → IsFormed e
   subsort_kept nodes q =
@@ -153,7 +164,7 @@ module _ (bytes : List ℕ) (tokens : List Token) (d e : Draft) (named : IsNamed
       ok_is (with_pair d (sort_named bytes d.sorts lower) (sort_named bytes d.sorts upper)) e (ok_unless (subsort_fault bytes d lower upper) (Ok (with_pair d (sort_named bytes d.sorts lower) (sort_named bytes d.sorts upper))) e q) in
       grown_sig (with_subsort d.sig (sort_named bytes d.sorts lower) (sort_named bytes d.sorts upper)) (grows_subsort d.sig (sort_named bytes d.sorts lower) (sort_named bytes d.sorts upper))
       (record { sorts = formed.signature.sorts; pairs = formed.signature.pairs })
-      (ap (λ (x : Draft). x.sig) same) (ap (λ (x : Draft). x.strands) same) (ap (λ (x : Draft). x.aims) same)
+      (ap (λ (x : Draft). x.sig) same) (ap (λ (x : Draft). x.equations) same) (ap (λ (x : Draft). x.strands) same) (ap (λ (x : Draft). x.aims) same)
 
   op_kept : (nodes : List Node) → op_read bytes tokens d nodes ≡ Ok e → IsFormed e
   op_kept nodes q =
@@ -165,7 +176,19 @@ module _ (bytes : List ℕ) (tokens : List Token) (d e : Draft) (named : IsNamed
         sorts = last_or_earlier (HasSorts d.sig.sorts) d.sig.ops o.value formed.signature.sorts decl.sorts;
         pairs = last_or_earlier (λ (x : OpDecl). x.«com» ≡ true → is_sort_pair x.args ≡ true) d.sig.ops o.value formed.signature.pairs decl.pair;
       })
-      (ap (λ (x : Draft). x.sig) same) (ap (λ (x : Draft). x.strands) same) (ap (λ (x : Draft). x.aims) same)
+      (ap (λ (x : Draft). x.sig) same) (ap (λ (x : Draft). x.equations) same) (ap (λ (x : Draft). x.strands) same) (ap (λ (x : Draft). x.aims) same)
+
+  equation_kept : (nodes : List Node) → equation_read bytes tokens d nodes ≡ Ok e → IsFormed e
+  equation_kept nodes q =
+      let o = ok_then (equation_declared d) (one_equation_read bytes tokens d nodes) e q in
+      let same : with_equation d o.value ≡ e = ok_is (with_equation d o.value) e o.gives in
+      subst IsFormed same (record {
+        signature = formed.signature;
+        equations = last_or_earlier (IsWellFormedEquation d.sig) d.equations o.value formed.equations (equation_formed bytes tokens d named nodes o.value o.is);
+        strands = formed.strands;
+        named_so = formed.named_so;
+        aims = formed.aims;
+      })
 
   strand_kept : (intruder : Bool) (nodes : List Node) → length (event_nodes nodes) ≤ 32 → params_of nodes ≤ 64 → strand_read bytes tokens d intruder nodes ≡ Ok e → IsFormed e
   strand_kept intruder nodes few_events few_params q =
@@ -174,6 +197,7 @@ module _ (bytes : List ℕ) (tokens : List Token) (d e : Draft) (named : IsNamed
       let same : with_strand d o.value ≡ e = ok_is (with_strand d o.value) e o.gives in
       subst IsFormed same (record {
         signature = formed.signature;
+        equations = formed.equations;
         strands = last_or_earlier (IsWellFormedStrand d.sig) d.strands.list o.value formed.strands strand.formed;
         named_so = last_or_earlier (λ (x : Strand). length x.names ≡ length (param_sorts x)) d.strands.list o.value formed.named_so strand.named_so;
         aims = λ k aim f.
@@ -187,27 +211,29 @@ module _ (bytes : List ℕ) (tokens : List Token) (d e : Draft) (named : IsNamed
       let same : with_aim d o.value ≡ e = ok_is (with_aim d o.value) e o.gives in
       subst IsFormed same (record {
         signature = formed.signature;
+        equations = formed.equations;
         strands = formed.strands;
         named_so = formed.named_so;
         aims = last_or_earlier (IsWellFormedAim d.sig d.strands.list) d.aims.list o.value formed.aims aim;
       })
 
-  by_kind : (b1 b2 b3 b4 b5 : Bool) (r1 r2 r3 r4 r5 : Result Draft ReadError) →
-      (r1 ≡ Ok e → IsFormed e) → (r2 ≡ Ok e → IsFormed e) → (r3 ≡ Ok e → IsFormed e) → (b4 ≡ true → r4 ≡ Ok e → IsFormed e) → (b5 ≡ true → r5 ≡ Ok e → IsFormed e) →
-      cond b1 r1 (cond b2 r2 (cond b3 r3 (cond b4 r4 (cond b5 r5 (Ok d))))) ≡ Ok e → IsFormed e
-  by_kind true b2 b3 b4 b5 r1 r2 r3 r4 r5 f1 f2 f3 f4 f5 q = f1 q
-  by_kind false true b3 b4 b5 r1 r2 r3 r4 r5 f1 f2 f3 f4 f5 q = f2 q
-  by_kind false false true b4 b5 r1 r2 r3 r4 r5 f1 f2 f3 f4 f5 q = f3 q
-  by_kind false false false true b5 r1 r2 r3 r4 r5 f1 f2 f3 f4 f5 q = f4 refl q
-  by_kind false false false false true r1 r2 r3 r4 r5 f1 f2 f3 f4 f5 q = f5 refl q
-  by_kind false false false false false r1 r2 r3 r4 r5 f1 f2 f3 f4 f5 q = subst IsFormed (ok_is d e q) formed
+  by_kind : (b1 b2 b3 b4 b5 b6 : Bool) (r1 r2 r3 r4 r5 r6 : Result Draft ReadError) →
+      (r1 ≡ Ok e → IsFormed e) → (r2 ≡ Ok e → IsFormed e) → (r3 ≡ Ok e → IsFormed e) → (r4 ≡ Ok e → IsFormed e) → (b5 ≡ true → r5 ≡ Ok e → IsFormed e) → (b6 ≡ true → r6 ≡ Ok e → IsFormed e) →
+      cond b1 r1 (cond b2 r2 (cond b3 r3 (cond b4 r4 (cond b5 r5 (cond b6 r6 (Ok d)))))) ≡ Ok e → IsFormed e
+  by_kind true b2 b3 b4 b5 b6 r1 r2 r3 r4 r5 r6 f1 f2 f3 f4 f5 f6 q = f1 q
+  by_kind false true b3 b4 b5 b6 r1 r2 r3 r4 r5 r6 f1 f2 f3 f4 f5 f6 q = f2 q
+  by_kind false false true b4 b5 b6 r1 r2 r3 r4 r5 r6 f1 f2 f3 f4 f5 f6 q = f3 q
+  by_kind false false false true b5 b6 r1 r2 r3 r4 r5 r6 f1 f2 f3 f4 f5 f6 q = f4 q
+  by_kind false false false false true b6 r1 r2 r3 r4 r5 r6 f1 f2 f3 f4 f5 f6 q = f5 refl q
+  by_kind false false false false false true r1 r2 r3 r4 r5 r6 f1 f2 f3 f4 f5 f6 q = f6 refl q
+  by_kind false false false false false false r1 r2 r3 r4 r5 r6 f1 f2 f3 f4 f5 f6 q = subst IsFormed (ok_is d e q) formed
 
   pub item_kept : (n : Node) → IsItemWithin n → HasParts n → item_read bytes tokens d n ≡ Ok e → IsFormed e
   item_kept n within some q =
-      by_kind (is_sort n) (kind_of n == terminal.SUBSORT) (is_op n) (is_strand n) (is_aim n)
-      (sort_read bytes tokens d (children_of n)) (subsort_read bytes tokens d (children_of n)) (op_read bytes tokens d (children_of n))
+      by_kind (is_sort n) (kind_of n == terminal.SUBSORT) (is_op n) (is_eq n) (is_strand n) (is_aim n)
+      (sort_read bytes tokens d (children_of n)) (subsort_read bytes tokens d (children_of n)) (op_read bytes tokens d (children_of n)) (equation_read bytes tokens d (children_of n))
       (strand_read bytes tokens d (kind_of n == terminal.INTRUDER) (children_of n)) (aim_read bytes tokens d (children_of n))
-      (sort_kept (children_of n)) (subsort_kept (children_of n)) (op_kept (children_of n))
+      (sort_kept (children_of n)) (subsort_kept (children_of n)) (op_kept (children_of n)) (equation_kept (children_of n))
       (λ t. strand_kept (kind_of n == terminal.INTRUDER) (children_of n) (within.events t) (within.params t))
       (λ t. aim_kept (children_of n) (within.strand_parts t) (within.known_parts t) (some t)) q
 
@@ -235,7 +261,7 @@ module _ (bytes : List ℕ) (tokens : List Token) where
       let d = ok_then (finished name) (items_read bytes tokens nothing (items_of nodes)) source q in
       let kept = items_kept (items_of nodes) nothing d.value (room_at_first nodes within) some formed_at_first d.is in
       subst IsWellFormedSource (ok_is _ source d.gives) (record {
-        protocol = record { signature = kept.formed.signature; strands = kept.formed.strands };
+        protocol = record { signature = kept.formed.signature; equations = kept.formed.equations; strands = kept.formed.strands };
         aims = kept.formed.aims;
         few_strands = (let f = kept.few in omega (arith, f));
       })

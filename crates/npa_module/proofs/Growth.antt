@@ -1,6 +1,5 @@
 -- What one item adds to the numbers of sorts, operators and strands, and the limits behind it.
 use Rattle.std.proofs.Common.{◌≡◌, ℕ, zero, suc, ◌+◌, ◌≤◌, ◌==◌, Bool, true, false, cond, List, [], ◌∷◌, ◌++◌, Option, None, Some, Result, Ok, Err, filter, map, length, refl, ap, sym, ◌∙◌, subst, arith, length-append, inl, inr, ◌<◌, drop, get_or, drop-cons, add-one, Bor}
-use Rattle.std.specs.Prelude.{slice_get}
 use Rattle.std.proofs.lemmas.List.{length-map}
 use Rattle.npa_syntax.specs.declared.node.Node.{Node}
 use Rattle.npa_syntax.specs.Nodes.{children_of}
@@ -9,15 +8,14 @@ use Rattle.npa_text.specs.Texts.{text_of}
 use Rattle.npa_text.specs.declared.terminals.TheConstants as terminal
 use Rattle.npa_text.specs.declared.symbols.TheConstants as symbol
 use Rattle.npa_sig.specs.declared.protocol.Strand.{Strand}
-use Rattle.npa_sig.specs.declared.protocol.Event.{Event}
 use Rattle.npa_module.specs.declared.source.ReadError.{ReadError}
 use Rattle.npa_module.specs.declared.draft.Draft.{Draft}
 use Rattle.npa_module.specs.Trees.{kind_of, first_token, seen}
-use Rattle.npa_module.specs.Drafts.{nothing, with_sort, with_pair, with_operator, with_strand, with_aim}
+use Rattle.npa_module.specs.Drafts.{nothing, with_sort, with_pair, with_operator, with_equation, with_strand, with_aim}
 use Rattle.npa_module.specs.Refusals.{unless, then_read, in_front, all_read, Refuses}
-use Rattle.npa_module.specs.Limits.{number, limit_of, is_sort, is_op, is_strand, is_aim, events_of}
+use Rattle.npa_module.specs.Limits.{number, limit_of, is_sort, is_op, is_eq, is_strand, is_aim, events_of}
 use Rattle.npa_module.specs.Later.{items_of}
-use Rattle.npa_module.specs.Items.{sort_named, sort_read, subsort_read, op_read, operator_read, operator_declared, strand_read, one_strand_read, strand_declared, strand_behind, strand_over, strand_with, aim_read, one_aim_read, aim_declared, item_read, items_read, events_read, event_read, event_nodes, parameters}
+use Rattle.npa_module.specs.Items.{sort_named, sort_read, subsort_read, op_read, operator_read, operator_declared, equation_read, one_equation_read, equation_declared, strand_read, one_strand_read, strand_declared, strand_behind, strand_over, strand_with, aim_read, one_aim_read, aim_declared, item_read, items_read, event_read, event_nodes, parameters}
 use Rattle.npa_module.specs.Rooms.{AreShort, IsNamed, HasRoom, HaveRoom}
 use Rattle.npa_module.proofs.KeptLimits.{kept_limits}
 
@@ -137,6 +135,17 @@ module _ (bytes : List ℕ) (tokens : List Token) (d e : Draft) where
         short = λ s. s;
       })
 
+  equation_grows : (nodes : List Node) → equation_read bytes tokens d nodes ≡ Ok e → Grown d e 0 0 0
+  equation_grows nodes q =
+      let equation = ok_then (equation_declared d) (one_equation_read bytes tokens d nodes) e q in
+      subst (λ x. Grown d x 0 0 0) (ok_is (with_equation d equation.value) e equation.gives) (record {
+        sorts_grow = omega arith;
+        ops_grow = omega arith;
+        strands_grow = omega arith;
+        named = λ n. record { sorts = n.sorts; strands = n.strands };
+        short = λ s. s;
+      })
+
   strand_grows : (b : Bool) (nodes : List Node) → length (event_nodes nodes) ≤ 32 → strand_read bytes tokens d b nodes ≡ Ok e → Grown d e 0 0 1
   strand_grows b nodes few q =
       let strand = ok_then (strand_declared d) (one_strand_read bytes tokens d b nodes) e q in
@@ -161,20 +170,21 @@ module _ (bytes : List ℕ) (tokens : List Token) (d e : Draft) where
         short = λ s. s;
       })
 
-  by_kind : (b1 b2 b3 b4 b5 : Bool) (r1 r2 r3 r4 r5 : Result Draft ReadError) →
-      (r1 ≡ Ok e → Grown d e 1 0 0) → (r2 ≡ Ok e → Grown d e 0 0 0) → (r3 ≡ Ok e → Grown d e 0 1 0) → (b4 ≡ true → r4 ≡ Ok e → Grown d e 0 0 1) → (r5 ≡ Ok e → Grown d e 0 0 0) →
-      cond b1 r1 (cond b2 r2 (cond b3 r3 (cond b4 r4 (cond b5 r5 (Ok d))))) ≡ Ok e → Grown d e (one_if b1) (one_if b3) (one_if b4)
-  by_kind true b2 b3 b4 b5 r1 r2 r3 r4 r5 f1 f2 f3 f4 f5 q = wider 1 (one_if b3) (one_if b4) (omega arith) (omega arith) (omega arith) (f1 q)
-  by_kind false true b3 b4 b5 r1 r2 r3 r4 r5 f1 f2 f3 f4 f5 q = wider 0 (one_if b3) (one_if b4) (omega arith) (omega arith) (omega arith) (f2 q)
-  by_kind false false true b4 b5 r1 r2 r3 r4 r5 f1 f2 f3 f4 f5 q = wider 0 1 (one_if b4) (omega arith) (omega arith) (omega arith) (f3 q)
-  by_kind false false false true b5 r1 r2 r3 r4 r5 f1 f2 f3 f4 f5 q = f4 refl q
-  by_kind false false false false true r1 r2 r3 r4 r5 f1 f2 f3 f4 f5 q = f5 q
-  by_kind false false false false false r1 r2 r3 r4 r5 f1 f2 f3 f4 f5 q = same d e 0 0 0 (ok_is d e q)
+  by_kind : (b1 b2 b3 b4 b5 b6 : Bool) (r1 r2 r3 r4 r5 r6 : Result Draft ReadError) →
+      (r1 ≡ Ok e → Grown d e 1 0 0) → (r2 ≡ Ok e → Grown d e 0 0 0) → (r3 ≡ Ok e → Grown d e 0 1 0) → (r4 ≡ Ok e → Grown d e 0 0 0) → (b5 ≡ true → r5 ≡ Ok e → Grown d e 0 0 1) → (r6 ≡ Ok e → Grown d e 0 0 0) →
+      cond b1 r1 (cond b2 r2 (cond b3 r3 (cond b4 r4 (cond b5 r5 (cond b6 r6 (Ok d)))))) ≡ Ok e → Grown d e (one_if b1) (one_if b3) (one_if b5)
+  by_kind true b2 b3 b4 b5 b6 r1 r2 r3 r4 r5 r6 f1 f2 f3 f4 f5 f6 q = wider 1 (one_if b3) (one_if b5) (omega arith) (omega arith) (omega arith) (f1 q)
+  by_kind false true b3 b4 b5 b6 r1 r2 r3 r4 r5 r6 f1 f2 f3 f4 f5 f6 q = wider 0 (one_if b3) (one_if b5) (omega arith) (omega arith) (omega arith) (f2 q)
+  by_kind false false true b4 b5 b6 r1 r2 r3 r4 r5 r6 f1 f2 f3 f4 f5 f6 q = wider 0 1 (one_if b5) (omega arith) (omega arith) (omega arith) (f3 q)
+  by_kind false false false true b5 b6 r1 r2 r3 r4 r5 r6 f1 f2 f3 f4 f5 f6 q = wider 0 0 (one_if b5) (omega arith) (omega arith) (omega arith) (f4 q)
+  by_kind false false false false true b6 r1 r2 r3 r4 r5 r6 f1 f2 f3 f4 f5 f6 q = f5 refl q
+  by_kind false false false false false true r1 r2 r3 r4 r5 r6 f1 f2 f3 f4 f5 f6 q = f6 q
+  by_kind false false false false false false r1 r2 r3 r4 r5 r6 f1 f2 f3 f4 f5 f6 q = same d e 0 0 0 (ok_is d e q)
 
   pub item_grows : (n : Node) → (is_strand n ≡ true → events_of n ≤ 32) → item_read bytes tokens d n ≡ Ok e → Grown d e (one_if (is_sort n)) (one_if (is_op n)) (one_if (is_strand n))
   item_grows n few q =
-      by_kind (is_sort n) (kind_of n == terminal.SUBSORT) (is_op n) (is_strand n) (is_aim n) _ _ _ _ _
-      (sort_grows (children_of n)) (subsort_grows (children_of n)) (op_grows (children_of n)) (λ t. strand_grows (kind_of n == terminal.INTRUDER) (children_of n) (few t)) (aim_grows (children_of n)) q
+      by_kind (is_sort n) (kind_of n == terminal.SUBSORT) (is_op n) (is_eq n) (is_strand n) (is_aim n) _ _ _ _ _ _
+      (sort_grows (children_of n)) (subsort_grows (children_of n)) (op_grows (children_of n)) (equation_grows (children_of n)) (λ t. strand_grows (kind_of n == terminal.INTRUDER) (children_of n) (few t)) (aim_grows (children_of n)) q
 
 -- ## Limits
 

@@ -1,5 +1,5 @@
 -- What no limit being passed says of the trees.
-use Rattle.std.proofs.Common.{◌≡◌, ◌≤◌, ℕ, zero, suc, ◌+◌, nat_lt, Bool, true, false, not, cond, List, [], ◌∷◌, Option, Some, None, map, length, refl, sym, ap, ◌∙◌, arith}
+use Rattle.std.proofs.Common.{◌≡◌, ◌≤◌, ℕ, zero, suc, ◌+◌, ◌||◌, nat_lt, Bool, true, false, not, cond, List, [], ◌∷◌, Option, Some, None, map, length, refl, sym, ap, ◌∙◌, arith}
 use Rattle.std.proofs.lemmas.Bool.Decides.{nat_tests}
 use Rattle.std.specs.Prelude.{slice_get, filter}
 use Rattle.std.specs.Option.{option_or, option_map}
@@ -8,7 +8,7 @@ use Rattle.npa_syntax.specs.Nodes.{children_of}
 use Rattle.npa_module.specs.declared.source.LimitPart.{LimitPart}
 use Rattle.npa_module.specs.declared.source.LimitPart.TheVariants as part
 use Rattle.npa_module.specs.Later.{items_of}
-use Rattle.npa_module.specs.Limits.{Passed, saturated, past, first_passed, number, where_is, total, sizes_of, limit_of, is_sort, is_op, is_strand, is_aim, args_of, events_of, params_of, parts_of, is_known, is_strand_part, crowded, crowd, args_past, events_past, params_past, parts_past, symbols_past}
+use Rattle.npa_module.specs.Limits.{Passed, saturated, past, first_passed, number, where_is, total, sizes_of, limit_of, is_sort, is_op, is_eq, is_strand, is_aim, args_of, events_of, params_of, parts_of, is_known, is_strand_part, crowded, crowd, args_past, events_past, params_past, parts_past, symbols_past}
 use Rattle.npa_module.specs.Within.{IsItemWithin, AreWithin}
 
 within : (row : LimitPart) (most n : ℕ) → past row most n ≡ None → n ≤ most
@@ -83,7 +83,7 @@ parts_strands item e is =
 item_within : (item : Node) → args_past item ≡ None → events_past item ≡ None → params_past item ≡ None → parts_past item ≡ None → symbols_past item ≡ None → IsItemWithin item
 item_within item a e p q s =
     let strand = where_is (is_strand item) (past part.Symbols 1024 (total (sizes_of (children_of item)))) in
-    let aim = where_is (is_aim item) (first_passed (map (past part.Symbols 1024) (sizes_of (children_of item)))) in
+    let aim = where_is (is_eq item || is_aim item) (first_passed (map (past part.Symbols 1024) (sizes_of (children_of item)))) in
     record {
       args = λ is. within part.Args 16 (args_of item) (held (is_op item) (past part.Args 16 (args_of item)) a is);
       events = λ is. within part.Events 32 (events_of item) (held (is_strand item) (past part.Events 32 (events_of item)) e is);
@@ -92,13 +92,16 @@ item_within item a e p q s =
       strand_parts = parts_strands item q;
       known_parts = parts_known item q;
       terms = λ is k size at. within part.Symbols 1024 size
-          (none_in (past part.Symbols 1024) (sizes_of (children_of item)) (held (is_aim item) (first_passed (map (past part.Symbols 1024) (sizes_of (children_of item)))) (right_none strand aim s) is) k size at);
+          (none_in (past part.Symbols 1024) (sizes_of (children_of item)) (held (is_eq item || is_aim item) (first_passed (map (past part.Symbols 1024) (sizes_of (children_of item)))) (right_none strand aim s) is) k size at);
     }
 
 -- the rows one after another
-module _ (a b c d e f g h i : Passed) where
+module _ (a b c d e f g h i j : Passed) where
+  abbrev from_j : Passed
+  from_j = option_or j None
+
   abbrev from_i : Passed
-  from_i = option_or i None
+  from_i = option_or i from_j
 
   abbrev from_h : Passed
   from_h = option_or h from_i
@@ -121,7 +124,7 @@ module _ (a b c d e f g h i : Passed) where
   abbrev from_b : Passed
   from_b = option_or b from_c
 
-  rows_none : option_or a from_b ≡ None → (a ≡ None) × (b ≡ None) × (c ≡ None) × (d ≡ None) × (e ≡ None) × (f ≡ None) × (g ≡ None) × (h ≡ None) × (i ≡ None)
+  rows_none : option_or a from_b ≡ None → (a ≡ None) × (b ≡ None) × (c ≡ None) × (d ≡ None) × (e ≡ None) × (f ≡ None) × (g ≡ None) × (h ≡ None) × (i ≡ None) × (j ≡ None)
   rows_none n =
       let nb = right_none a from_b n in
       let nc = right_none b from_c nb in
@@ -131,19 +134,21 @@ module _ (a b c d e f g h i : Passed) where
       let ng = right_none f from_g nf in
       let nh = right_none g from_h ng in
       let ni = right_none h from_i nh in
-      (left_none a from_b n, left_none b from_c nb, left_none c from_d nc, left_none d from_e nd, left_none e from_f ne, left_none f from_g nf, left_none g from_h ng, left_none h from_i nh, left_none i None ni)
+      let nj = right_none i from_j ni in
+      (left_none a from_b n, left_none b from_c nb, left_none c from_d nc, left_none d from_e nd, left_none e from_f ne, left_none f from_g nf, left_none g from_h ng, left_none h from_i nh, left_none i from_j ni, left_none j None nj)
 
 pub kept_limits : (nodes : List Node) → limit_of nodes ≡ None → AreWithin (items_of nodes)
 kept_limits nodes e =
     let items = items_of nodes in
-    let none = rows_none (past part.Sorts 256 (number is_sort items)) (past part.Ops 4096 (number is_op items)) (first_passed (map args_past items))
+    let none = rows_none (past part.Sorts 256 (number is_sort items)) (past part.Ops 4096 (number is_op items)) (first_passed (map args_past items)) (past part.Equations 256 (number is_eq items))
     (past part.Strands 1024 (number is_strand items)) (first_passed (map events_past items)) (first_passed (map params_past items))
     (past part.Aims 256 (number is_aim items)) (first_passed (map parts_past items)) (first_passed (map symbols_past items)) e in
     record {
       sorts = within part.Sorts 256 (number is_sort items) none.0;
       ops = within part.Ops 4096 (number is_op items) none.1;
-      strands = within part.Strands 1024 (number is_strand items) none.3;
-      aims = within part.Aims 256 (number is_aim items) none.6;
-      each = λ k item at. item_within item (none_in args_past items none.2 k item at) (none_in events_past items none.4 k item at) (none_in params_past items none.5 k item at)
-          (none_in parts_past items none.7 k item at) (none_in symbols_past items none.8 k item at);
+      equations = within part.Equations 256 (number is_eq items) none.3;
+      strands = within part.Strands 1024 (number is_strand items) none.4;
+      aims = within part.Aims 256 (number is_aim items) none.7;
+      each = λ k item at. item_within item (none_in args_past items none.2 k item at) (none_in events_past items none.5 k item at) (none_in params_past items none.6 k item at)
+          (none_in parts_past items none.8 k item at) (none_in symbols_past items none.9 k item at);
     }

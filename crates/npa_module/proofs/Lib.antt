@@ -4,6 +4,7 @@ pub mod Growth
 pub mod Whole
 pub mod Numbering
 pub mod Answering
+pub mod Occurring
 pub mod LimitLaws
 pub mod TallyLaws
 pub mod KeptLimits

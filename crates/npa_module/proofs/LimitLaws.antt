@@ -11,7 +11,7 @@ use Rattle.npa_module.specs.declared.source.LimitPart.{LimitPart}
 use Rattle.npa_module.specs.declared.source.LimitPart.TheVariants as part
 use Rattle.npa_module.specs.Trees.{all_with, listed}
 use Rattle.npa_module.specs.Later.{is_later}
-use Rattle.npa_module.specs.Limits.{Passed, past, first_passed, number, where_is, total, sizes_over, sizes, sizes_of, item_row, is_counted, rows, is_sort, is_op, is_strand, is_aim, args_past, events_past, params_past, parts_past, symbols_past}
+use Rattle.npa_module.specs.Limits.{Passed, past, first_passed, number, where_is, total, sizes_over, sizes, sizes_of, item_row, is_counted, rows, is_sort, is_op, is_eq, is_strand, is_aim, args_past, events_past, params_past, parts_past, symbols_past}
 
 -- ## Items
 
@@ -144,29 +144,30 @@ large_next nodes i n r l e so_far given is = ap (λ o. option_or o (large (sizes
 
 -- ## Rows
 
-rows_joined : (a b c d e f g h i : Passed) →
-    option_or (option_or (option_or (option_or (option_or (option_or (option_or (option_or a b) c) d) e) f) g) h) i
-    ≡ first_passed (a ∷ b ∷ c ∷ d ∷ e ∷ f ∷ g ∷ h ∷ i ∷ [])
-rows_joined (Some x) b c d e f g h i = refl
-rows_joined None (Some x) c d e f g h i = refl
-rows_joined None None (Some x) d e f g h i = refl
-rows_joined None None None (Some x) e f g h i = refl
-rows_joined None None None None (Some x) f g h i = refl
-rows_joined None None None None None (Some x) g h i = refl
-rows_joined None None None None None None (Some x) h i = refl
-rows_joined None None None None None None None (Some x) i = refl
-rows_joined None None None None None None None None i = sym (or_none i)
+rows_joined : (a b c d e f g h i j : Passed) →
+    option_or (option_or (option_or (option_or (option_or (option_or (option_or (option_or (option_or a b) c) d) e) f) g) h) i) j
+    ≡ first_passed (a ∷ b ∷ c ∷ d ∷ e ∷ f ∷ g ∷ h ∷ i ∷ j ∷ [])
+rows_joined (Some x) b c d e f g h i j = refl
+rows_joined None (Some x) c d e f g h i j = refl
+rows_joined None None (Some x) d e f g h i j = refl
+rows_joined None None None (Some x) e f g h i j = refl
+rows_joined None None None None (Some x) f g h i j = refl
+rows_joined None None None None None (Some x) g h i j = refl
+rows_joined None None None None None None (Some x) h i j = refl
+rows_joined None None None None None None None (Some x) i j = refl
+rows_joined None None None None None None None None (Some x) j = refl
+rows_joined None None None None None None None None None j = sym (or_none j)
 
 pub or_both : {A : Type 0} (o p q p' q' : Option A) → o ≡ option_or p q → p ≡ p' → q ≡ q' → o ≡ option_or p' q'
 or_both o p q p' q' e f g = e ∙ ap (λ x. option_or x q) f ∙ ap (option_or p') g
 
 pub rows_of : (items : List Node) →
-    option_or (option_or (option_or (option_or (option_or (option_or (option_or (option_or
+    option_or (option_or (option_or (option_or (option_or (option_or (option_or (option_or (option_or
     (past part.Sorts 256 (number is_sort items)) (past part.Ops 4096 (number is_op items))) (first_passed (map args_past items)))
-    (past part.Strands 1024 (number is_strand items))) (first_passed (map events_past items))) (first_passed (map params_past items)))
+    (past part.Equations 256 (number is_eq items))) (past part.Strands 1024 (number is_strand items))) (first_passed (map events_past items))) (first_passed (map params_past items)))
     (past part.Aims 256 (number is_aim items))) (first_passed (map parts_past items))) (first_passed (map symbols_past items))
     ≡ first_passed (rows items)
 rows_of items =
-    rows_joined (past part.Sorts 256 (number is_sort items)) (past part.Ops 4096 (number is_op items)) (first_passed (map args_past items))
+    rows_joined (past part.Sorts 256 (number is_sort items)) (past part.Ops 4096 (number is_op items)) (first_passed (map args_past items)) (past part.Equations 256 (number is_eq items))
     (past part.Strands 1024 (number is_strand items)) (first_passed (map events_past items)) (first_passed (map params_past items))
     (past part.Aims 256 (number is_aim items)) (first_passed (map parts_past items)) (first_passed (map symbols_past items))

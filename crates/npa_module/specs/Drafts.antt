@@ -1,6 +1,7 @@
 -- What the items of a module have declared so far, and what a name stands for among them.
 use Rattle.std.specs.Prelude.{ℕ, List, [], ◌∷◌, ◌++◌, Option, codes, is_none, if◌then◌else◌}
 use Rattle.npa_names.specs.Names.{place_of}
+use Rattle.npa_sig.specs.declared.protocol.Equation.{Equation}
 use Rattle.npa_sig.specs.declared.protocol.Strand.{Strand}
 use Rattle.npa_sig.specs.declared.signature.OpDecl.{OpDecl}
 use Rattle.npa_sig.specs.Signature.{Signature, bare, with_op, with_subsort, with_sort as sig_with_sort}
@@ -14,6 +15,7 @@ abbrev pub nothing : Draft
 nothing = record {
   sig = bare;
   sorts = codes "Msg" ∷ codes "Fresh" ∷ [];
+  equations = [];
   strands = record { list = []; names = []; params = [] };
   aims = record { list = []; names = [] };
 }
@@ -34,26 +36,29 @@ given table (n ∷ ns) = given (if is_none (place_of n table) then table ++ n �
 -- ## What a declaration adds
 
 abbrev pub with_sig : Draft → Signature → Draft
-with_sig d sig = record { sig = sig; sorts = d.sorts; strands = d.strands; aims = d.aims }
+with_sig d sig = record { sig = sig; sorts = d.sorts; equations = d.equations; strands = d.strands; aims = d.aims }
 
 abbrev pub with_sort : Draft → List ℕ → Draft
-with_sort d name = record { sig = sig_with_sort d.sig name; sorts = d.sorts ++ name ∷ []; strands = d.strands; aims = d.aims }
+with_sort d name = record { sig = sig_with_sort d.sig name; sorts = d.sorts ++ name ∷ []; equations = d.equations; strands = d.strands; aims = d.aims }
 
 abbrev pub with_pair : Draft → ℕ → ℕ → Draft
-with_pair d lower upper = record { sig = with_subsort d.sig lower upper; sorts = d.sorts; strands = d.strands; aims = d.aims }
+with_pair d lower upper = record { sig = with_subsort d.sig lower upper; sorts = d.sorts; equations = d.equations; strands = d.strands; aims = d.aims }
 
 abbrev pub with_operator : Draft → OpDecl → Draft
-with_operator d decl = record { sig = with_op d.sig decl; sorts = d.sorts; strands = d.strands; aims = d.aims }
+with_operator d decl = record { sig = with_op d.sig decl; sorts = d.sorts; equations = d.equations; strands = d.strands; aims = d.aims }
+
+abbrev pub with_equation : Draft → Equation → Draft
+with_equation d equation = record { sig = d.sig; sorts = d.sorts; equations = d.equations ++ equation ∷ []; strands = d.strands; aims = d.aims }
 
 -- a strand, with its name and those of its variables and fresh values
 abbrev pub strand_added : StrandSpace → Strand → StrandSpace
 strand_added space strand = record { list = space.list ++ strand ∷ []; names = space.names ++ strand.name ∷ []; params = given space.params strand.names }
 
 abbrev pub with_strand : Draft → Strand → Draft
-with_strand d strand = record { sig = d.sig; sorts = d.sorts; strands = strand_added d.strands strand; aims = d.aims }
+with_strand d strand = record { sig = d.sig; sorts = d.sorts; equations = d.equations; strands = strand_added d.strands strand; aims = d.aims }
 
 abbrev pub aim_added : AimSpace → Aim → AimSpace
 aim_added space aim = record { list = space.list ++ aim ∷ []; names = space.names ++ aim.name ∷ [] }
 
 abbrev pub with_aim : Draft → Aim → Draft
-with_aim d aim = record { sig = d.sig; sorts = d.sorts; strands = d.strands; aims = aim_added d.aims aim }
+with_aim d aim = record { sig = d.sig; sorts = d.sorts; equations = d.equations; strands = d.strands; aims = aim_added d.aims aim }

@@ -1,12 +1,13 @@
 -- The items of a module, in the order of the text: what each declares, or the first of its words that
 -- breaks a rule on names or sorts.
-use Rattle.std.specs.Prelude.{◌≡◌, ℕ, ◌+◌, Bool, true, false, ◌==◌, ◌&&◌, ◌||◌, not, nat_lt, cond, List, [], ◌∷◌, ◌++◌, Option, None, Some, Result, Ok, Err, map, length, is_none, is_some, replicate, slice_get, unwrap_or}
-use Rattle.std.specs.Option.{option_map_or}
+use Rattle.std.specs.Prelude.{ℕ, ◌+◌, Bool, false, ◌==◌, ◌&&◌, ◌||◌, not, nat_lt, cond, if◌then◌else◌, List, [], ◌∷◌, ◌++◌, Option, None, Some, Result, Ok, Err, map, length, is_none, is_some, replicate, slice_get, unwrap_or}
+use Rattle.std.specs.Option.{option_map_or, option_and_then}
 use Rattle.std.specs.Str.{bytes_eq}
 use Rattle.npa_syntax.specs.declared.node.Node.{Node}
 use Rattle.npa_syntax.specs.Nodes.{children_of, first_with}
 use Rattle.npa_text.specs.declared.token.Token.{Token}
 use Rattle.npa_text.specs.declared.token.Raw.{Raw, out-Raw}
+use Rattle.npa_text.specs.declared.token.Raw.TheFolds.{fold-Raw}
 use Rattle.npa_text.specs.declared.terminals.TheConstants as terminal
 use Rattle.npa_text.specs.declared.symbols.TheConstants as symbol
 use Rattle.npa_text.specs.Raws.{token_at}
@@ -15,6 +16,7 @@ use Rattle.npa_names.specs.Names.{place_of}
 use Rattle.npa_term.specs.declared.term.Term.{Term}
 use Rattle.npa_sig.specs.declared.fault.UseFail.{UseFail}
 use Rattle.npa_sig.specs.declared.signature.OpDecl.{OpDecl}
+use Rattle.npa_sig.specs.declared.protocol.Equation.{Equation}
 use Rattle.npa_sig.specs.declared.protocol.Event.{Event}
 use Rattle.npa_sig.specs.declared.protocol.Strand.{Strand}
 use Rattle.npa_sig.specs.declared.meaning.Scoped.{Scoped}
@@ -27,10 +29,10 @@ use Rattle.npa_model.specs.declared.aim.Part.TheVariants as part
 use Rattle.npa_model.specs.declared.aim.Aim.{Aim}
 use Rattle.npa_module.specs.declared.source.ReadError.{ReadError}
 use Rattle.npa_module.specs.declared.scopes.Binders.{Binders}
-use Rattle.npa_module.specs.Trees.{all_with, listed, has, below, word_at, word_of, kind_of, first_token, raw_below}
+use Rattle.npa_module.specs.Trees.{all_with, listed, has, below, word_at, kind_of, first_token, raw_below, after}
 use Rattle.npa_module.specs.declared.draft.Draft.{Draft}
-use Rattle.npa_module.specs.Drafts.{sort_number, strand_number, with_sort, with_pair, with_operator, with_strand, with_aim}
-use Rattle.npa_module.specs.Limits.{is_sort, is_op, is_strand, is_aim}
+use Rattle.npa_module.specs.Drafts.{sort_number, strand_number, with_sort, with_pair, with_operator, with_equation, with_strand, with_aim}
+use Rattle.npa_module.specs.Limits.{is_sort, is_op, is_eq, is_strand, is_aim}
 use Rattle.npa_module.specs.Refusals.{name_refusal, sort_refusal, told_if, first_of, unless, then_read, in_front, all_read, use_refusal}
 
 -- the sort of fresh values
@@ -50,6 +52,11 @@ is_pair [] = false
 is_pair (w ∷ []) = false
 is_pair (w ∷ v ∷ []) = bytes_eq w v
 is_pair (w ∷ v ∷ u ∷ ws) = false
+
+-- lists of words one behind another
+abbrev pub joined : List (List (List ℕ)) → List (List ℕ)
+joined [] = []
+joined (ws ∷ more) = ws ++ joined more
 
 -- no names
 abbrev pub unbound : Binders
@@ -76,6 +83,20 @@ scope_of b = scope_from 0 b.names b.sorts
 abbrev pub parameters : List (List ℕ) → Binders → List Scoped
 parameters fresh vars = scope_from 0 (vars.names ++ fresh) (vars.sorts ++ replicate (length fresh) 1)
 
+-- the sort of a variable of this name
+abbrev pub sort_in : Binders → List ℕ → Option ℕ
+sort_in vars word = option_and_then (slice_get vars.sorts) (place_of word vars.names)
+
+-- a variable that is met for the first time stands behind those so far
+abbrev pub met : Binders → List ℕ → Option ℕ → Binders
+met found word None = found
+met found word (Some sort) = if is_some (place_of word found.earlier) then found else bound found word sort
+
+-- the variables that are among the words, each once, in the order of first occurrence
+abbrev pub occurring : Binders → Binders → List (List ℕ) → Binders
+occurring vars found [] = found
+occurring vars found (w ∷ ws) = occurring vars (met found w (sort_in vars w)) ws
+
 abbrev pub variable_nodes : List Node → List Node
 variable_nodes nodes = all_with symbol.VARIABLE (below symbol.VARIABLES nodes)
 
@@ -100,6 +121,9 @@ abbrev pub term_from : Result Term UseFail → Result Term ReadError
 term_from (Ok t) = Ok t
 term_from (Err e) = Err (use_refusal e)
 
+abbrev pub equation_with : Term → Term → Result Equation ReadError
+equation_with left right = Ok (record { left = left; right = right })
+
 abbrev pub event_with : Node → Term → Result Event ReadError
 event_with node t = Ok (record { sent = kind_of node == terminal.PLUS; msg = t })
 
@@ -108,6 +132,9 @@ strand_part_with k bar args = Ok (part.Strand k bar args)
 
 abbrev pub known_part : Term → Result Part ReadError
 known_part t = Ok (part.Known t)
+
+abbrev pub equation_declared : Draft → Equation → Result Draft ReadError
+equation_declared d equation = Ok (with_equation d equation)
 
 abbrev pub operator_declared : Draft → OpDecl → Result Draft ReadError
 operator_declared d decl = Ok (with_operator d decl)
@@ -158,6 +185,22 @@ module _ (bytes : List ℕ) where
   -- a term that isn't of the sort Fresh
   abbrev pub message_read : Signature → List Scoped → Raw → Result Term ReadError
   message_read sig scope raw = then_read (message (out-Raw raw).head) (term_read sig scope raw)
+
+  -- the words of a term, in the order of the text
+  abbrev pub words_in : Raw → List (List ℕ)
+  words_in raw = fold-Raw (List (List ℕ)) (λ layer. text_of bytes layer.head ∷ joined layer.args) raw
+
+  -- the variables of an equation, numbered from 0 in the order of first occurrence in its sides, whatever
+  -- their names are (Baader, Nipkow 1998, on renamings)
+  abbrev pub numbered : Binders → Raw → Raw → List Scoped
+  numbered vars left right = scope_of (occurring vars unbound (words_in left ++ words_in right))
+
+  abbrev pub right_read : Signature → List Scoped → Raw → Term → Result Equation ReadError
+  right_read sig scope right left = then_read (equation_with left) (message_read sig scope right)
+
+  -- the left side, then the right one
+  abbrev pub sides_read : Signature → List Scoped → Raw → Raw → Result Equation ReadError
+  sides_read sig scope left right = then_read (right_read sig scope right) (message_read sig scope left)
 
   abbrev pub strand_with : Bool → Token → List (List ℕ) → Binders → List Event → Result Strand ReadError
   strand_with intruder name fresh vars events =
@@ -234,6 +277,21 @@ module _ (bytes : List ℕ) (tokens : List Token) where
   abbrev pub variables_read : Draft → Binders → List Node → Result Binders ReadError
   variables_read d b [] = Ok b
   variables_read d b (n ∷ ns) = then_read (λ c. variables_read d c ns) (variable_read d b n)
+
+  -- ## An equation
+
+  -- the right side stands behind the mark `=`
+  abbrev pub equation_over : Draft → List Node → Binders → Result Equation ReadError
+  equation_over d nodes vars =
+      let left = raw_below tokens symbol.TERM nodes in
+      let right = raw_below tokens symbol.TERM (after symbol.EQUALS_MARK nodes) in
+      sides_read bytes d.sig (numbered bytes vars left right) left right
+
+  abbrev pub one_equation_read : Draft → List Node → Result Equation ReadError
+  one_equation_read d nodes = then_read (equation_over d nodes) (variables_read d unbound (variable_nodes nodes))
+
+  abbrev pub equation_read : Draft → List Node → Result Draft ReadError
+  equation_read d nodes = then_read (equation_declared d) (one_equation_read d nodes)
 
   -- ## A strand
 
@@ -330,8 +388,9 @@ module _ (bytes : List ℕ) (tokens : List Token) where
       cond (is_sort node) (sort_read d (children_of node))
       (cond (kind_of node == terminal.SUBSORT) (subsort_read d (children_of node))
       (cond (is_op node) (op_read d (children_of node))
+      (cond (is_eq node) (equation_read d (children_of node))
       (cond (is_strand node) (strand_read d (kind_of node == terminal.INTRUDER) (children_of node))
-      (cond (is_aim node) (aim_read d (children_of node)) (Ok d)))))
+      (cond (is_aim node) (aim_read d (children_of node)) (Ok d))))))
 
   abbrev pub items_read : Draft → List Node → Result Draft ReadError
   items_read d [] = Ok d

@@ -59,6 +59,9 @@ is_sort item = kind_of item == terminal.SORT
 abbrev pub is_op : Node → Bool
 is_op item = kind_of item == terminal.OP
 
+abbrev pub is_eq : Node → Bool
+is_eq item = kind_of item == terminal.EQ
+
 -- a strand is honest or the intruder's
 abbrev pub is_strand : Node → Bool
 is_strand item = kind_of item == terminal.STRAND || kind_of item == terminal.INTRUDER
@@ -140,11 +143,11 @@ params_past item = where_is (is_strand item) (past part.Params 64 (params_of (ch
 abbrev pub parts_past : Node → Passed
 parts_past item = where_is (is_aim item) (option_map (crowd (parts_of item)) (crowded 0 0 (parts_of item)))
 
--- the messages of a strand together, and each term of an aim by itself
+-- the messages of a strand together, and each term of an equation or an aim by itself
 abbrev pub symbols_past : Node → Passed
 symbols_past item =
     option_or (where_is (is_strand item) (past part.Symbols 1024 (total (sizes_of (children_of item)))))
-    (where_is (is_aim item) (first_passed (map (past part.Symbols 1024) (sizes_of (children_of item)))))
+    (where_is (is_eq item || is_aim item) (first_passed (map (past part.Symbols 1024) (sizes_of (children_of item)))))
 
 -- what an item passes of a row that looks at one item after another
 abbrev pub item_row : LimitPart → Node → Passed
@@ -166,10 +169,10 @@ item_row part.Conditions = λ item. None
 abbrev pub is_counted : LimitPart → Node → Bool
 is_counted part.Sorts = is_sort
 is_counted part.Ops = is_op
+is_counted part.Equations = is_eq
 is_counted part.Strands = is_strand
 is_counted part.Aims = is_aim
 is_counted part.Args = λ item. false
-is_counted part.Equations = λ item. false
 is_counted part.Events = λ item. false
 is_counted part.Params = λ item. false
 is_counted part.Parts = λ item. false
@@ -185,6 +188,7 @@ rows items =
     past part.Sorts 256 (number is_sort items)
     ∷ past part.Ops 4096 (number is_op items)
     ∷ first_passed (map args_past items)
+    ∷ past part.Equations 256 (number is_eq items)
     ∷ past part.Strands 1024 (number is_strand items)
     ∷ first_passed (map events_past items)
     ∷ first_passed (map params_past items)

@@ -1,5 +1,5 @@
 -- Module texts: which bytes stand for which module, and which refusal other bytes have.
-use Rattle.std.specs.Prelude.{◌≡◌, ◌⊎◌, ℕ, List, [], Result, Ok, Err}
+use Rattle.std.specs.Prelude.{◌≡◌, ◌⊎◌, ℕ, List, Result, Ok, Err}
 use Rattle.std.specs.Option.{option_map}
 use Rattle.npa_syntax.specs.declared.node.Node.{Node}
 use Rattle.npa_text.specs.declared.token.Token.{Token}
@@ -22,7 +22,7 @@ use Rattle.npa_module.specs.Items.{items_read}
 
 -- what the items have declared, as a module of a name
 abbrev pub finished : List ℕ → Draft → Result Source ReadError
-finished name d = Ok (record { name = name; protocol = record { sig = d.sig; equations = []; strands = d.strands.list }; aims = d.aims.list })
+finished name d = Ok (record { name = name; protocol = record { sig = d.sig; equations = d.equations; strands = d.strands.list }; aims = d.aims.list })
 
 -- the module of a text's trees, or the first word that breaks a rule on names or sorts
 abbrev pub source_of : List ℕ → List Token → List Node → Result Source ReadError

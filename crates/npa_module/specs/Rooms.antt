@@ -1,5 +1,5 @@
 -- Modules within the limits, whose sorts, operators, strands and events have numbers of 16 bits.
-use Rattle.std.specs.Prelude.{◌≡◌, ◌≤◌, ◌<◌, ℕ, ◌+◌, true, List, length, Some, slice_get}
+use Rattle.std.specs.Prelude.{◌≡◌, ◌≤◌, ℕ, ◌+◌, List, length, Some, slice_get}
 use Rattle.npa_syntax.specs.declared.node.Node.{Node}
 use Rattle.npa_sig.specs.declared.protocol.Strand.{Strand}
 use Rattle.npa_module.specs.declared.draft.Draft.{Draft}

@@ -18,6 +18,11 @@ abbrev pub listed : ℕ → ℕ → List Node → List Node
 listed symbol next [] = []
 listed symbol next (n ∷ ns) = cond (symbol_of n == symbol) (n ∷ listed symbol next ns) (cond (symbol_of n == next) (all_with symbol (children_of n) ++ listed symbol next ns) (listed symbol next ns))
 
+-- the nodes behind the first one for a nonterminal
+abbrev pub after : ℕ → List Node → List Node
+after symbol [] = []
+after symbol (n ∷ ns) = cond (symbol_of n == symbol) ns (after symbol ns)
+
 -- whether there is a node for a nonterminal
 abbrev pub has : ℕ → List Node → Bool
 has symbol nodes = is_some (first_with symbol nodes)

@@ -2,14 +2,15 @@ ghost use Rattle.std.specs.Prelude.{◌≡◌, ◌≢◌, ◌<◌, ◌≤◌, fa
 ghost use Rattle.npa_names.specs.Names.{place_of};
 ghost use Rattle.npa_sorts.specs.Subsorts.{IsSort, at_or_below};
 ghost use Rattle.npa_sig.specs.Signature.{with_sort as sig_with_sort};
-ghost use Rattle.npa_module.specs.Drafts.{nothing, sort_number, strand_number, with_sig, with_sort, with_pair, with_operator, with_strand, with_aim, strand_added, aim_added, given};
+ghost use Rattle.npa_module.specs.Drafts.{nothing, sort_number, strand_number, with_sig, with_sort, with_pair, with_operator, with_equation, with_strand, with_aim, strand_added, aim_added, given};
 ghost use Rattle.npa_module.specs.Refusals.{Gives};
+ghost use Rattle.npa_module.specs.Modules.{finished};
 
-use crate::source::ReadError;
+use crate::source::{ReadError, Source};
 use npa_list::List;
 use npa_model::{Aim, Aims};
 use npa_names::NameTable;
-use npa_sig::{FRESH, OpDecl, Sig, Strand, Strands};
+use npa_sig::{Equation, Equations, FRESH, OpDecl, Protocol, Sig, Strand, Strands};
 use npa_text::Name;
 use std::alloc::{AllocError, Global};
 
@@ -34,6 +35,7 @@ pub(crate) struct AimSpace {
 pub(crate) struct Draft {
     pub(crate) sig: Sig,
     pub(crate) sorts: NameTable,
+    pub(crate) equations: Equations,
     pub(crate) strands: StrandSpace,
     pub(crate) aims: AimSpace,
 }
@@ -46,21 +48,28 @@ pub(crate) fn refuse(draft: Draft, error: ReadError) -> Result<Draft, ReadError>
     Err(error)
 }
 
-// The signature, the strands and the aims.
-pub(crate) fn parts_of(draft: Draft) -> (Sig, Strands, Aims)
-    ensures sig { result.0 ≡ draft.sig }
-    ensures strands { result.1 ≡ draft.strands.list }
-    ensures aims { result.2 ≡ draft.aims.list }
+// The module of a name with what is declared.
+pub(crate) fn finished(name: Name, draft: Draft) -> Source
+    ensures { Ok result ≡ finished name draft }
 {
     let Draft {
         sig,
+        equations,
         strands,
         aims,
         ..
     } = draft;
     let StrandSpace { list: strands, .. } = strands;
     let AimSpace { list: aims, .. } = aims;
-    (sig, strands, aims)
+    Source {
+        name,
+        protocol: Protocol {
+            sig,
+            equations,
+            strands,
+        },
+        aims,
+    }
 }
 
 // What is declared before the first item.
@@ -74,6 +83,7 @@ pub(crate) fn empty_draft(alloc: Global) -> Result<Draft, ReadError>
     Ok(Draft {
         sig,
         sorts: built_in_names(alloc)?,
+        equations: List::new(alloc),
         strands: StrandSpace {
             list: List::new(alloc),
             names: NameTable::new(alloc),
@@ -139,6 +149,7 @@ fn number_sort(alloc: Global, draft: Draft, name: Name) -> Result<Draft, ReadErr
     let Draft {
         sig,
         sorts,
+        equations,
         strands,
         aims,
     } = draft;
@@ -146,6 +157,7 @@ fn number_sort(alloc: Global, draft: Draft, name: Name) -> Result<Draft, ReadErr
         Ok(sig) => Ok(Draft {
             sig,
             sorts,
+            equations,
             strands,
             aims,
         }),
@@ -169,6 +181,7 @@ pub(crate) fn put_below(
     let Draft {
         sig,
         sorts,
+        equations,
         strands,
         aims,
     } = draft;
@@ -176,6 +189,7 @@ pub(crate) fn put_below(
         Ok(sig) => Ok(Draft {
             sig,
             sorts,
+            equations,
             strands,
             aims,
         }),
@@ -191,6 +205,7 @@ pub(crate) fn declare(alloc: Global, draft: Draft, decl: OpDecl) -> Result<Draft
     let Draft {
         sig,
         sorts,
+        equations,
         strands,
         aims,
     } = draft;
@@ -198,11 +213,21 @@ pub(crate) fn declare(alloc: Global, draft: Draft, decl: OpDecl) -> Result<Draft
         Ok(sig) => Ok(Draft {
             sig,
             sorts,
+            equations,
             strands,
             aims,
         }),
         Err(_) => Err(ReadError::NoMemory),
     }
+}
+
+// One more equation.
+pub(crate) fn declare_equation(draft: Draft, equation: Equation) -> Result<Draft, ReadError>
+    ensures { Gives result (Ok (with_equation draft equation)) }
+{
+    let mut draft = draft;
+    draft.equations.push(equation)?;
+    Ok(draft)
 }
 
 // One more strand.

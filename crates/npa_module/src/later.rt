@@ -5,7 +5,7 @@ ghost use Rattle.npa_module.specs.Later.{later_of, is_later};
 use crate::trees::below;
 use npa_syntax::Node;
 use npa_text::symbols::{ITEM, MODULE};
-use npa_text::terminals::{EQ, GRAMMAR};
+use npa_text::terminals::GRAMMAR;
 use npa_text::{Tokens, token_at};
 
 // The place of the first item that isn't read so far.
@@ -25,5 +25,5 @@ pub(crate) fn later_item(tokens: &Tokens, nodes: &[Node]) -> Option<(u32, u32)>
 fn is_later_item(node: &Node) -> bool
     ensures { result ≡ (symbol_of node.now == ITEM && is_later node.now) }
 {
-    node.symbol == ITEM && (node.head.kind == EQ || node.head.kind == GRAMMAR)
+    node.symbol == ITEM && node.head.kind == GRAMMAR
 }

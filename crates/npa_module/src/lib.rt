@@ -1,8 +1,17 @@
 //! Module texts.
 #![tactic(auto)]
 
+#[cfg(test)]
+mod aim_tests;
 mod aims;
+#[cfg(test)]
+mod answers;
+#[cfg(test)]
+mod declaration_tests;
 mod draft;
+#[cfg(test)]
+mod equation_tests;
+mod equations;
 mod later;
 mod limits;
 #[cfg(test)]
@@ -10,13 +19,15 @@ mod limits_tests;
 mod operators;
 mod parts;
 mod reader;
-#[cfg(test)]
-mod refusal_tests;
 mod refusals;
 mod scopes;
 mod sorts;
 mod source;
+#[cfg(test)]
+mod strand_tests;
 mod strands;
+#[cfg(test)]
+mod syntax_tests;
 mod terms;
 #[cfg(test)]
 mod tests;

@@ -1,8 +1,8 @@
-ghost use Rattle.std.specs.Prelude.{◌≡◌, ◌==◌, ◌&&◌, ℕ, nat_lt, cond, Some, None, length, map};
+ghost use Rattle.std.specs.Prelude.{◌≡◌, ◌==◌, ◌&&◌, ◌||◌, ℕ, nat_lt, cond, Some, None, length, map};
 ghost use Rattle.npa_syntax.specs.Nodes.{symbol_of};
 ghost use Rattle.npa_module.specs.Trees.{all_with, listed};
 ghost use Rattle.npa_module.specs.declared.source.LimitPart.TheVariants.{Symbols};
-ghost use Rattle.npa_module.specs.Limits.{saturated, past, where_is, first_passed, number, total, sizes, sizes_of, params_of, limit_of, item_row, is_counted, args_past, events_past, params_past, parts_past, symbols_past, is_op, is_strand, is_aim};
+ghost use Rattle.npa_module.specs.Limits.{saturated, past, where_is, first_passed, number, total, sizes, sizes_of, params_of, limit_of, item_row, is_counted, args_past, events_past, params_past, parts_past, symbols_past, is_op, is_eq, is_strand, is_aim};
 ghost use Rattle.npa_module.specs.Tallies.{with_part, with_node, tallied};
 
 use crate::source::LimitPart;
@@ -12,7 +12,7 @@ use npa_text::symbols::{
     ARGUMENT_SORT, EVENT, FRESH_VALUE, FRESH_VALUES, ITEM, MODULE, NEXT_EVENT, NEXT_PART, PART,
     TERM, VARIABLE, VARIABLES,
 };
-use npa_text::terminals::{AIM, INTRUDER, KNOWN, OP, SORT, STRAND};
+use npa_text::terminals::{AIM, EQ, INTRUDER, KNOWN, OP, SORT, STRAND};
 
 /// The most declared sorts of a module.
 pub const MOST_SORTS: u32 = 256;
@@ -22,6 +22,9 @@ pub const MOST_OPS: u32 = 4_096;
 
 /// The most arguments of an operator.
 pub const MOST_ARGS: u32 = 16;
+
+/// The most equations of a module.
+pub const MOST_EQUATIONS: u32 = 256;
 
 /// The most strands of a module.
 pub const MOST_STRANDS: u32 = 1_024;
@@ -41,7 +44,7 @@ pub const MOST_STRAND_PARTS: u32 = 32;
 /// The most known parts of an aim.
 pub const MOST_KNOWN_PARTS: u32 = 64;
 
-/// The most symbols of all messages of a strand together, and of a term of an aim.
+/// The most symbols of all messages of a strand together, and of a term of an equation or an aim.
 pub const MOST_SYMBOLS: u32 = 1_024;
 
 // The limit of the first row that is passed, in the order of `LimitPart`, and the number that passes
@@ -54,6 +57,7 @@ pub(crate) fn first_limit(nodes: &[Node]) -> Option<(LimitPart, u64)>
     many_items(LimitPart::Sorts, MOST_SORTS, inside)
         .or(many_items(LimitPart::Ops, MOST_OPS, inside))
         .or(first_item(LimitPart::Args, inside))
+        .or(many_items(LimitPart::Equations, MOST_EQUATIONS, inside))
         .or(many_items(LimitPart::Strands, MOST_STRANDS, inside))
         .or(first_item(LimitPart::Events, inside))
         .or(first_item(LimitPart::Params, inside))
@@ -105,6 +109,7 @@ fn is_counted(part: LimitPart, node: &Node) -> bool
     match part {
         LimitPart::Sorts => node.head.kind == SORT,
         LimitPart::Ops => is_op(node),
+        LimitPart::Equations => is_eq(node),
         LimitPart::Strands => is_strand(node),
         LimitPart::Aims => is_aim(node),
         _ => false,
@@ -115,6 +120,12 @@ fn is_op(item: &Node) -> bool
     ensures { result ≡ is_op item.now }
 {
     item.head.kind == OP
+}
+
+fn is_eq(item: &Node) -> bool
+    ensures { result ≡ is_eq item.now }
+{
+    item.head.kind == EQ
 }
 
 fn is_strand(item: &Node) -> bool
@@ -332,10 +343,17 @@ fn symbols_past(item: &Node) -> Option<(LimitPart, u64)>
     if is_strand(item) {
         return past(LimitPart::Symbols, MOST_SYMBOLS, total_size(nodes));
     }
-    if is_aim(item) {
+    if has_single_terms(item) {
         return first_large(nodes);
     }
     None
+}
+
+// Whether each term of an item is limited by itself.
+fn has_single_terms(item: &Node) -> bool
+    ensures { result ≡ (is_eq item.now || is_aim item.now) }
+{
+    is_eq(item) || is_aim(item)
 }
 
 // The symbols of all terms of the nodes together.

@@ -1,4 +1,3 @@
-use crate::later::later_item;
 use crate::limits::first_limit;
 use crate::source::LimitPart;
 use npa_text::{MOST_BYTES, NoMemory, TextFault, module_grammar, parse, put_number};
@@ -98,7 +97,7 @@ fn limit_at(shape: Shape, most: u32, part: LimitPart, value: u64) -> Row {
 
 /// The limits on numbers of items, and on what an item has. Two operators stand in the head, and one
 /// event or part before the pieces.
-pub(crate) fn number_rows() -> [Row; 10] {
+pub(crate) fn number_rows() -> [Row; 11] {
     [
         limit_at(items("sort s", "; "), 256, LimitPart::Sorts, 257),
         limit_at(items("op o", " : -> Msg; "), 4_094, LimitPart::Ops, 4_097),
@@ -107,6 +106,12 @@ pub(crate) fn number_rows() -> [Row; 10] {
             16,
             LimitPart::Args,
             17,
+        ),
+        limit_at(
+            inside("", "eq : a = f(a); ", ""),
+            256,
+            LimitPart::Equations,
+            257,
         ),
         limit_at(
             items("strand s", " : + a; "),
@@ -152,8 +157,9 @@ pub(crate) fn number_rows() -> [Row; 10] {
     ]
 }
 
-/// The limits on symbols: of a strand's messages together, of a known term, of a parameter's term.
-pub(crate) fn symbol_rows() -> [Row; 4] {
+/// The limits on symbols: of a strand's messages together, of the sides of an equation, of a known term,
+/// of a parameter's term.
+pub(crate) fn symbol_rows() -> [Row; 6] {
     [
         limit_at(
             nested("strand s : + ", ";"),
@@ -164,6 +170,18 @@ pub(crate) fn symbol_rows() -> [Row; 4] {
         limit_at(
             nested("strand s : - f(a), + ", ", - a;"),
             1_020,
+            LimitPart::Symbols,
+            1_025,
+        ),
+        limit_at(
+            nested("eq : ", " = f(a);"),
+            1_023,
+            LimitPart::Symbols,
+            1_025,
+        ),
+        limit_at(
+            nested("eq : f(a) = ", ";"),
+            1_023,
             LimitPart::Symbols,
             1_025,
         ),
@@ -227,78 +245,77 @@ fn is_limit(alloc: Global, row: &Row) -> Result<bool, Fail> {
     Ok(kept && limit_in(alloc, past.as_slice())? == Some((row.part, row.value)))
 }
 
+// The place of the first row that isn't passed by just one piece more.
+fn first_wrong(alloc: Global, rows: &[Row]) -> Result<Option<usize>, Fail> {
+    for k in 0..rows.len() {
+        if !is_limit(alloc, &rows[k])? {
+            return Ok(Some(k));
+        }
+    }
+    Ok(None)
+}
+
 #[test]
 fn numbers_up_to_the_limits(rt: HostRuntime) -> Result<(), Fail> {
-    for row in &number_rows() {
-        assert!(rt; is_limit(rt.alloc(), row)?, "at {}", row.value);
-    }
+    assert_eq!(rt; first_wrong(rt.alloc(), &number_rows())?, None);
     Ok(())
 }
 
 #[test]
 fn symbols_up_to_the_limits(rt: HostRuntime) -> Result<(), Fail> {
-    for row in &symbol_rows() {
-        assert!(rt; is_limit(rt.alloc(), row)?, "at {}", row.most);
-    }
+    assert_eq!(rt; first_wrong(rt.alloc(), &symbol_rows())?, None);
     Ok(())
 }
 
-// What the module of these pieces, each so many times, passes.
-fn passed(alloc: Global, pieces: &[(&str, u32)]) -> Result<Option<(LimitPart, u64)>, Fail> {
+// Whether the module of these pieces, each so many times, passes this limit first.
+fn is_first(
+    alloc: Global,
+    pieces: &[(&str, u32)],
+    part: LimitPart,
+    value: u64,
+) -> Result<bool, Fail> {
     let mut text = Vec::new(alloc);
     text.extend_from_slice(HEAD.as_bytes())?;
     for (piece, count) in pieces {
         push_times(&mut text, *piece, *count)?;
     }
-    Ok(limit_in(alloc, text.as_slice())?)
+    Ok(limit_in(alloc, text.as_slice())? == Some((part, value)))
 }
 
 #[test]
-fn the_first_operator_is_told(rt: HostRuntime) -> Result<(), Fail> {
-    let pieces = [
+fn the_first_row_and_item_are_told(rt: HostRuntime) -> Result<(), Fail> {
+    let alloc = rt.alloc();
+    let operators = [
         ("op g :", 1),
         (" Msg", 18),
         (" -> Msg; op h :", 1),
         (" Msg", 17),
         (" -> Msg;", 1),
     ];
-    assert_eq!(rt; passed(rt.alloc(), &pieces)?, Some((LimitPart::Args, 18)));
-    Ok(())
-}
-
-#[test]
-fn the_first_row_is_told(rt: HostRuntime) -> Result<(), Fail> {
-    let pieces = [
+    assert!(rt; is_first(alloc, &operators, LimitPart::Args, 18)?);
+    let events = [
         ("strand s : + a", 1),
         (", - a", 32),
         ("; op g :", 1),
         (" Msg", 17),
         (" -> Msg;", 1),
     ];
-    assert_eq!(rt; passed(rt.alloc(), &pieces)?, Some((LimitPart::Args, 17)));
+    assert!(rt; is_first(alloc, &events, LimitPart::Args, 17)?);
+    let equations = [("strand s : + a; ", 1_025), ("eq : a = a; ", 258)];
+    assert!(rt; is_first(alloc, &equations, LimitPart::Equations, 258)?);
     Ok(())
 }
 
 #[test]
-fn the_first_of_two_part_numbers_is_told(rt: HostRuntime) -> Result<(), Fail> {
+fn the_first_crowd_of_parts_is_told(rt: HostRuntime) -> Result<(), Fail> {
+    let alloc = rt.alloc();
     let known = (", known a", 70);
     let strands = (", strand s() at 0", 40);
     let head = ("aim g : known a", 1);
     let tail = (";", 1);
-    assert_eq!(rt;
-        passed(rt.alloc(), &[head, known, strands, tail])?,
-        Some((LimitPart::Parts, 71))
-    );
-    assert_eq!(rt;
-        passed(rt.alloc(), &[head, strands, known, tail])?,
-        Some((LimitPart::Parts, 40))
-    );
-    Ok(())
-}
-
-#[test]
-fn the_first_aim_is_told(rt: HostRuntime) -> Result<(), Fail> {
-    let pieces = [
+    assert!(rt; is_first(alloc, &[head, known, strands, tail], LimitPart::Parts, 71)?);
+    assert!(rt; is_first(alloc, &[head, strands, known, tail], LimitPart::Parts, 40)?);
+    let aims = [
         ("aim f : known a", 1),
         (", strand s() at 0", 32),
         (", known a", 63),
@@ -308,13 +325,14 @@ fn the_first_aim_is_told(rt: HostRuntime) -> Result<(), Fail> {
         (", known a", 64),
         (";", 1),
     ];
-    assert_eq!(rt; passed(rt.alloc(), &pieces)?, Some((LimitPart::Parts, 33)));
+    assert!(rt; is_first(alloc, &aims, LimitPart::Parts, 33)?);
     Ok(())
 }
 
 #[test]
 fn the_first_large_item_is_told(rt: HostRuntime) -> Result<(), Fail> {
-    let pieces = [
+    let alloc = rt.alloc();
+    let aim = [
         ("aim g : known ", 1),
         ("f(", 1_025),
         ("a", 1),
@@ -325,57 +343,40 @@ fn the_first_large_item_is_told(rt: HostRuntime) -> Result<(), Fail> {
         (")", 1_024),
         (";", 1),
     ];
-    assert_eq!(rt;
-        passed(rt.alloc(), &pieces)?,
-        Some((LimitPart::Symbols, 1_026))
-    );
+    assert!(rt; is_first(alloc, &aim, LimitPart::Symbols, 1_026)?);
+    let side = [
+        ("eq : a = ", 1),
+        ("f(", 1_026),
+        ("a", 1),
+        (")", 1_026),
+        ("; strand s : + ", 1),
+        ("f(", 1_024),
+        ("a", 1),
+        (")", 1_024),
+        (";", 1),
+    ];
+    assert!(rt; is_first(alloc, &side, LimitPart::Symbols, 1_027)?);
     Ok(())
 }
 
-// The place of the first item that comes later.
-fn later_in(alloc: Global, text: &str) -> Result<Option<(u32, u32)>, TextFault> {
-    if text.len() > MOST_BYTES {
-        return Ok(None);
-    }
-    let parsed = parse(alloc, &module_grammar(), text.as_bytes())?;
-    Ok(later_item(&parsed.tokens, parsed.nodes.as_slice()))
+// Whether each part has its word.
+fn are_named() -> bool {
+    LimitPart::Sorts.word() == "sorts".as_bytes()
+        && LimitPart::Ops.word() == "ops".as_bytes()
+        && LimitPart::Args.word() == "args".as_bytes()
+        && LimitPart::Equations.word() == "equations".as_bytes()
+        && LimitPart::Strands.word() == "strands".as_bytes()
+        && LimitPart::Events.word() == "events".as_bytes()
+        && LimitPart::Params.word() == "params".as_bytes()
+        && LimitPart::Aims.word() == "aims".as_bytes()
+        && LimitPart::Parts.word() == "parts".as_bytes()
+        && LimitPart::Grammars.word() == "grammars".as_bytes()
+        && LimitPart::Productions.word() == "productions".as_bytes()
+        && LimitPart::Conditions.word() == "conditions".as_bytes()
+        && LimitPart::Symbols.word() == "symbols".as_bytes()
 }
 
 #[test]
-fn items_that_come_later(rt: HostRuntime) -> Result<(), Fail> {
-    for (text, place) in [
-        ("protocol P;", None),
-        ("protocol P; sort eq1; aim grammar_ : known a;", None),
-        ("protocol P;\n eq : a = a;", Some((2, 2))),
-        (
-            "protocol P; sort S; grammar g : f(a); eq : a = a;",
-            Some((1, 21)),
-        ),
-        ("protocol P; eq : a = a; grammar g : f(a);", Some((1, 13))),
-    ] {
-        assert_eq!(rt; later_in(rt.alloc(), text)?, place, "at {text}");
-    }
-    Ok(())
-}
-
-#[test]
-fn words_of_parts(rt: HostRuntime) -> Result<(), Fail> {
-    for (part, word) in [
-        (LimitPart::Sorts, "sorts"),
-        (LimitPart::Ops, "ops"),
-        (LimitPart::Args, "args"),
-        (LimitPart::Equations, "equations"),
-        (LimitPart::Strands, "strands"),
-        (LimitPart::Events, "events"),
-        (LimitPart::Params, "params"),
-        (LimitPart::Aims, "aims"),
-        (LimitPart::Parts, "parts"),
-        (LimitPart::Grammars, "grammars"),
-        (LimitPart::Productions, "productions"),
-        (LimitPart::Conditions, "conditions"),
-        (LimitPart::Symbols, "symbols"),
-    ] {
-        assert!(rt; part.word() == word.as_bytes(), "at {word}");
-    }
-    Ok(())
+fn words_of_parts(rt: HostRuntime) {
+    assert!(rt; are_named());
 }

@@ -157,7 +157,7 @@ fn read_argument(
 fn is_fit(sig: &Sig, scope: &Scope, bytes: &[u8], raw: &Raw, sort: u16) -> bool
     ensures { result ≡ one_fits sig.now (sort_at sig.now scope.now bytes.now raw.now) sort }
 {
-    match sort_at(sig, scope.as_slice(), bytes, raw) {
+    match sort_at(sig, scope, bytes, raw) {
         Some(least) => sig.is_below(least, sort),
         None => true,
     }

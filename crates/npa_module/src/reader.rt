@@ -9,7 +9,8 @@ ghost use Rattle.npa_module.specs.Forms.{IsWellFormedSource};
 ghost use Rattle.npa_module.specs.Modules.{source_of, verdict, text_refusal, IsRead, AnswersModule};
 
 use crate::aims::add_aim;
-use crate::draft::{Draft, empty_draft, parts_of};
+use crate::draft::{Draft, empty_draft, finished};
+use crate::equations::add_equation;
 use crate::later::later_item;
 use crate::limits::first_limit;
 use crate::operators::add_operator;
@@ -18,19 +19,19 @@ use crate::source::{ReadError, Source};
 use crate::strands::add_strand;
 use crate::trees::{all_with, below, word_of};
 use npa_list::List;
-use npa_sig::Protocol;
 use npa_syntax::Node;
 use npa_text::symbols::{ITEM, MODULE, PROTOCOL_NAME};
-use npa_text::terminals::{AIM, INTRUDER, OP, SORT, STRAND, SUBSORT};
+use npa_text::terminals::{AIM, EQ, INTRUDER, OP, SORT, STRAND, SUBSORT};
 use npa_text::{Parsed, TextFault, Tokens, module_grammar, parse};
 use std::alloc::Global;
 
 /// Reads a module text. Where several refusals hold, the first of these is told: `Syntax` with the
-/// first place at which no module can go on; `Later` with the first item `eq` or `grammar`; `Limit`
-/// with the first limit that is passed, in the order of `LimitPart`, and by what number; `Name` and
-/// `Sort` with the first word in the order of the text that breaks a rule on names or on sorts. A
-/// name stands for what was declared earlier in the text; variables are numbered by their places, a
-/// strand's fresh values behind them. What is read is well formed.
+/// first place at which no module can go on; `Later` with the first item `grammar`; `Limit` with the
+/// first limit that is passed, in the order of `LimitPart`, and by what number; `Name` and `Sort` with
+/// the first word in the order of the text that breaks a rule on names or on sorts. A name stands for
+/// what was declared earlier in the text. The variables of a strand or an aim are numbered by their
+/// places, a strand's fresh values behind them; those of an equation by their first occurrence in its
+/// sides, without those that don't occur. What is read is well formed.
 pub fn read(alloc: Global, bytes: &[u8]) -> Result<Source, ReadError>
     requires { length bytes.now ≤ 1048576 }
     ensures answer { IsRead bytes.now result }
@@ -85,20 +86,10 @@ fn read_tree(
     let inside = below(MODULE, nodes);
     let items = all_with(alloc, ITEM, inside)?;
     let name = List::from_slice(alloc, word_of(bytes, tokens, PROTOCOL_NAME, inside))?;
-    let draft = match read_items(alloc, bytes, tokens, items.as_slice()) {
-        Ok(draft) => draft,
-        Err(error) => return Err(error),
-    };
-    let (sig, strands, aims) = parts_of(draft);
-    Ok(Source {
-        name,
-        protocol: Protocol {
-            sig,
-            equations: List::new(alloc),
-            strands,
-        },
-        aims,
-    })
+    match read_items(alloc, bytes, tokens, items.as_slice()) {
+        Ok(draft) => Ok(finished(name, draft)),
+        Err(error) => Err(error),
+    }
 }
 
 // What the items declare, in the order of the text.
@@ -137,6 +128,7 @@ fn add_item(
         SORT => add_sort(alloc, bytes, tokens, draft, nodes),
         SUBSORT => add_subsort(alloc, bytes, tokens, draft, nodes),
         OP => add_operator(alloc, bytes, tokens, draft, nodes),
+        EQ => add_equation(alloc, bytes, tokens, draft, nodes),
         STRAND => add_strand(alloc, bytes, tokens, draft, false, nodes),
         INTRUDER => add_strand(alloc, bytes, tokens, draft, true, nodes),
         AIM => add_aim(alloc, bytes, tokens, draft, nodes),

@@ -45,19 +45,25 @@ fn bind(alloc: Global, binders: Binders, name: &[u8], sort: u16) -> Result<Binde
     requires { is_some (place_of name.now binders.earlier) ≡ false }
     ensures { IfOk result (λ b. b ≡ bound binders name.now sort) }
 {
-    let Binders {
-        mut earlier,
-        mut names,
-        mut sorts,
-    } = binders;
-    earlier.insert(alloc, name)?;
-    names.push(List::from_slice(alloc, name)?)?;
-    sorts.push(sort)?;
-    Ok(Binders {
-        earlier,
-        names,
-        sorts,
-    })
+    let mut binders = binders;
+    add_bound(alloc, &mut binders, name, sort)?;
+    Ok(binders)
+}
+
+// Adds a name with its sort, which isn't there yet.
+pub(crate) fn add_bound(
+    alloc: Global,
+    binders: &mut Binders,
+    name: &[u8],
+    sort: u16,
+) -> Result<(), AllocError>
+    requires { is_some (place_of name.now binders.old.earlier) ≡ false }
+    ensures { OnOk result (binders.new ≡ bound binders.old name.now sort) }
+{
+    binders.earlier.insert(alloc, name)?;
+    binders.names.push(List::from_slice(alloc, name)?)?;
+    binders.sorts.push(sort)?;
+    Ok(())
 }
 
 // The names of a strand's fresh values, and what stands in front of its variables: these names.
@@ -151,18 +157,17 @@ fn read_variable(
 pub(crate) fn scope_of(alloc: Global, names: &[Name], sorts: &[u16]) -> Result<Scope, AllocError>
     ensures { IfOk result (λ scope. scope ≡ scope_from 0 names.now sorts.now) }
 {
-    let mut scope = List::new(alloc);
+    let mut scope = Scope::new(alloc);
     for k in 0..names.len().min(sorts.len()) {
         let Ok(num) = u32::try_from(k) else {
             return Err(AllocError);
         };
-        scope.push(Scoped {
-            name: List::from_slice(alloc, names[k].as_slice())?,
-            var: Var {
-                num,
-                sort: sorts[k],
-            },
-        })?;
+        let name = List::from_slice(alloc, names[k].as_slice())?;
+        let var = Var {
+            num,
+            sort: sorts[k],
+        };
+        scope.push(alloc, Scoped { name, var })?;
     }
     Ok(scope)
 }

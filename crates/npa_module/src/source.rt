@@ -76,7 +76,7 @@ pub enum ReadError {
     /// last byte.
     #[error("no module goes on at {line}:{col}")]
     Syntax { line: u32, col: u32 },
-    /// The place of the first item that is an equation or a grammar, which aren't read so far.
+    /// The place of the first item that is a grammar, which isn't read so far.
     #[error("not read so far at {line}:{col}")]
     Later { line: u32, col: u32 },
     /// A limit is passed: of which part, and by what number.

@@ -1,6 +1,6 @@
 ghost use Rattle.std.specs.Prelude.{◌≡◌, IfOk};
 ghost use Rattle.npa_text.specs.Raws.{no_token};
-ghost use Rattle.npa_module.specs.Trees.{all_with, listed, has, below, word_at, word_of, kind_of, seen, first_token, raw_below};
+ghost use Rattle.npa_module.specs.Trees.{all_with, listed, has, below, word_at, word_of, kind_of, seen, first_token, raw_below, after};
 
 use npa_list::List;
 use npa_syntax::{Node, child_of};
@@ -45,6 +45,20 @@ pub fn listed<'a>(
         }
     }
     Ok(found)
+}
+
+/// The nodes behind the first one for a nonterminal.
+pub fn after(symbol: u8, nodes: &[Node]) -> &[Node]
+    ensures { result.now ≡ after symbol nodes.now }
+{
+    let mut rest = nodes;
+    while let Some((first, more)) = rest.split_first() {
+        rest = more;
+        if first.symbol == symbol {
+            return rest;
+        }
+    }
+    rest
 }
 
 /// Whether there is a node for a nonterminal.

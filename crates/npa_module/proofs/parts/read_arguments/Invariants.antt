@@ -1,4 +1,4 @@
-use Rattle.std.proofs.Common.{◌≡◌, ◌≤◌, min, length, drop}
+use Rattle.std.proofs.Common.{◌≡◌, ◌≤◌, length, drop}
 use Rattle.npa_module.specs.Trees.{seen}
 use Rattle.npa_module.specs.Items.{arguments_read}
 use Rattle.npa_module.proofs.Reading.{with_front}

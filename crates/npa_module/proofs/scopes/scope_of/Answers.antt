@@ -1,4 +1,4 @@
-use Rattle.std.proofs.Common.{ℕ, ◌≤◌, min, length, arith}
+use Rattle.std.proofs.Common.{◌≤◌, min, length, arith}
 use Rattle.npa_module.proofs.Numbering.{all_numbered}
 use Rattle.npa_module.proofs.scopes.scope_of.Goals as goal
 
