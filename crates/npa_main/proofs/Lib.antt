@@ -3,3 +3,4 @@ pub mod RunLaws
 pub mod OneRun
 pub mod OneModule
 pub mod Showing
+pub mod Equations

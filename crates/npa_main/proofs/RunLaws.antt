@@ -1,8 +1,8 @@
 -- What a run text stands for: its terms are ground and well sorted, it has no more instances and steps
 -- than trees, and one thing is answered.
-use Rattle.std.proofs.Common.{◌≡◌, ℕ, ◌≤◌, ◌==◌, Bool, true, false, cond, List, [], ◌∷◌, Option, None, Some, Result, Ok, Err, length, map, filter, refl, sym, ap, subst, ◌∙◌, inl, inr, Contains, arith, zero, suc}
+use Rattle.std.proofs.Common.{◌≡◌, ℕ, ◌≤◌, ◌==◌, Bool, true, false, cond, List, [], ◌∷◌, Option, Some, Result, Ok, Err, length, map, filter, refl, sym, ap, subst, ◌∙◌, inl, inr, Contains, arith, zero, suc}
 use Rattle.std.proofs.lemmas.List.{length-map}
-use Rattle.std.specs.Prelude.{IfSome, IfOk, slice_get}
+use Rattle.std.specs.Prelude.{IfOk, slice_get}
 use Rattle.std.specs.Option.{option_map_or}
 use Rattle.std.specs.List.{find}
 use Rattle.npa_syntax.specs.declared.node.Node.{Node}
@@ -14,11 +14,10 @@ use Rattle.npa_text.specs.declared.fault.TextFault.{TextFault}
 use Rattle.npa_text.specs.declared.fault.TextFault.TheVariants.{Syntax, NoMemory}
 use Rattle.npa_text.specs.declared.parser.Parsed.{Parsed}
 use Rattle.npa_text.specs.Languages.{run_language}
-use Rattle.npa_text.specs.Parses.{IsParse, IsFirstFault, AnswersParse, AnswersFirstFault, PlacesFirstFault}
+use Rattle.npa_text.specs.Parses.{IsParse, AnswersParse, AnswersFirstFault, PlacesFirstFault}
 use Rattle.npa_text.specs.Raws.{raw_of, token_at}
 use Rattle.npa_text.specs.Texts.{text_of}
 use Rattle.npa_text.specs.Sizes.{IsFew}
-use Rattle.npa_term.specs.declared.term.Var.{Var as Variable}
 use Rattle.npa_term.specs.declared.term.Term.{Term}
 use Rattle.npa_term.specs.declared.term.Term.TheVariants.{Name}
 use Rattle.npa_term.specs.Variables.{IsGround}

@@ -1,6 +1,6 @@
 -- The text for the words, from what follows from the files and the aim's name.
-use Rattle.std.proofs.Common.{◌≡◌, ℕ, ◌≤◌, Bool, true, false, inl, inr, List, Option, None, Some, Result, Ok, Err, refl, sym, ap, subst, ◌∙◌, arith, Bor}
-use Rattle.std.specs.Prelude.{◌⊎◌, codes, IfSome, IfOk, slice_get}
+use Rattle.std.proofs.Common.{◌≡◌, ℕ, ◌≤◌, Bool, true, false, inl, inr, List, Option, Some, Result, Ok, Err, refl, sym, ap, subst, ◌∙◌, arith, Bor}
+use Rattle.std.specs.Prelude.{◌⊎◌, codes, IfOk}
 use Rattle.std.specs.Option.{option_copied}
 use Rattle.std.specs.List.{position_or_len}
 use Rattle.std.specs.Str.{bytes_eq}
@@ -14,20 +14,19 @@ use Rattle.npa_replay.specs.declared.answer.Replay.TheVariants as replay
 use Rattle.npa_sig.specs.declared.fault.GroundFault.{GroundFault}
 use Rattle.npa_sig.specs.declared.fault.GroundFault.TheVariants.{Inhabited, Ground}
 use Rattle.npa_sig.specs.declared.protocol.Protocol.{Protocol}
-use Rattle.npa_term.specs.Canonical.{canonical}
 use Rattle.npa_model.specs.declared.run.Run.{Run}
 use Rattle.npa_model.specs.Aims.{Reaches}
 use Rattle.npa_module.specs.declared.source.ReadError.{ReadError}
 use Rattle.npa_module.specs.declared.source.ReadError.TheVariants as read_error
 use Rattle.npa_replay.specs.declared.answer.Replay.{Replay}
-use Rattle.npa_replay.specs.Replays.{IsTrueOf}
+use Rattle.npa_replay.specs.Replays.{IsTrueOf, OfNormalForms}
 use Rattle.npa_main.specs.Texts.{usage_line, refusal, ground_status, answer_status}
 use Rattle.npa_main.specs.declared.printing.Printed.{Printed}
 use Rattle.npa_main.specs.declared.files.Halt.{Halt}
 use Rattle.npa_main.specs.declared.files.Loaded.{Loaded}
 use Rattle.npa_main.specs.declared.files.Loaded.TheVariants as loaded
 use Rattle.npa_main.specs.Loads.{IfRead}
-use Rattle.npa_main.specs.Answers.{Shown, usage, of_module, ShownOfModule, long_module, refused_module, groundless, no_aim, of_run, ShownOfRun, long_run, refused_run, replayed, Passes, is_told, is_replay, word_at, aim_named, AreTold, AreToldOf, IsFor, IsForModule, RunReaches, ReadFault, ReadFaultOf}
+use Rattle.npa_main.specs.Answers.{Shown, usage, of_module, ShownOfModule, long_module, refused_module, groundless, wrong_equation, no_aim, of_run, ShownOfRun, long_run, refused_run, replayed, Passes, is_told, is_replay, word_at, aim_named, AreTold, AreToldOf, AreSettled, AreSettledOf, theory_of, IsFor, IsForModule, RunReaches, ReadFault, ReadFaultOf}
 
 -- the member of an option
 the_same : {A : Type 0} {x y : A} → Some x ≡ Some y → y ≡ x
@@ -47,14 +46,14 @@ module _ (told : List ℕ → Option (List ℕ)) (rose : List ℕ → Type 0) (w
   module _ (so : is_replay words ≡ true) where
     pub for_command : (file name run : List ℕ) → file ≡ word_at words 1 → name ≡ word_at words 2 → run ≡ word_at words 3 → (text : List ℕ) (status : ℕ) →
         IsForModule (told file) (rose file) (told run) (rose run) name text status → IsFor told rose words text status
-    for_command file name run f n r text status one = record { shown = of_module text status so here.shown; only = λ known other number. none_else (known so) }
+    for_command file name run f n r text status one = record { shown = of_module text status so here.shown; only = λ known other number. none_else (known.0 so, known.1 so) }
       where
         here : IsForModule (told (word_at words 1)) (rose (word_at words 1)) (told (word_at words 3)) (rose (word_at words 3)) (word_at words 2) text status
         here = subst (λ (x : List ℕ). IsForModule (told x) (rose x) (told (word_at words 3)) (rose (word_at words 3)) (word_at words 2) text status) f
             (subst (λ (x : List ℕ). IsForModule (told file) (rose file) (told x) (rose x) (word_at words 2) text status) r
             (subst (λ (x : List ℕ). IsForModule (told file) (rose file) (told run) (rose run) x text status) n one))
 
-        none_else : AreToldOf (told (word_at words 1)) (told (word_at words 3)) (word_at words 2) → {other : List ℕ} {number : ℕ} → Shown told (λ n. Unit {0}) words other number →
+        none_else : AreToldOf (told (word_at words 1)) (told (word_at words 3)) (word_at words 2) × AreSettledOf (told (word_at words 1)) (word_at words 2) → {other : List ℕ} {number : ℕ} → Shown told (λ n. Unit {0}) words other number →
             (other ≡ text) × (number ≡ status)
         none_else known (usage isnt) = never (is_replay words) so isnt
         none_else known (of_module t s also shown) = here.only known t s shown
@@ -70,8 +69,8 @@ module _ (told : List ℕ → Option (List ℕ)) (rose : List ℕ → Type 0) (w
 
 -- where the files' texts are known and the run reaches the aim, this is what is told
 pub reached_status : (told : List ℕ → Option (List ℕ)) (rose : List ℕ → Type 0) (words : List (List ℕ)) (text : List ℕ) (status : ℕ) → IsFor told rose words text status →
-    AreTold told words → RunReaches told words → status ≡ 0
-reached_status told rose words text status is known r = sym (is.only known (codes "reaches\n") 0
+    AreTold told words → AreSettled told words → RunReaches told words → status ≡ 0
+reached_status told rose words text status is known settled r = sym (is.only (known, settled) (codes "reaches\n") 0
     (of_module (codes "reaches\n") 0 r.command
     (of_run r.source r.aim (codes "reaches\n") 0 r.passes
     (replayed r.run (codes "reaches\n") 0 r.run_is
@@ -136,7 +135,8 @@ module_status : {told : Option (List ℕ)} {rose : Type 0} {run_told : Option (L
 module_status (long_module r l) = refl
 module_status (refused_module error text status r line) = three_or_seven status (refusal_told error text status line)
 module_status (groundless source fault r f) = three_or_seven (ground_status fault) (ground_told fault)
-module_status (no_aim source r f a) = refl
+module_status (wrong_equation source number r f w) = refl
+module_status (no_aim source r f w a) = refl
 module_status (of_run source aim text status p shown) = run_status shown
 
 shown_status : {told : List ℕ → Option (List ℕ)} {rose : List ℕ → Type 0} {words : List (List ℕ)} {text : List ℕ} {status : ℕ} → Shown told rose words text status → is_told status ≡ true
@@ -147,7 +147,8 @@ shown_status (of_module text status so shown) = module_status shown
 pub told_status : (told : List ℕ → Option (List ℕ)) (rose : List ℕ → Type 0) (words : List (List ℕ)) (text : List ℕ) (status : ℕ) → IsFor told rose words text status → is_told status ≡ true
 told_status told rose words text status is = shown_status is.shown
 
-reaches_at : (protocol : Protocol) (aim : Aim) (run : Run) (answer : Replay) → IsTrueOf canonical protocol aim run answer → answer_status answer ≡ 0 → Reaches canonical protocol aim run
+reaches_at : (protocol : Protocol) (aim : Aim) (run : Run) (answer : Replay) → OfNormalForms (theory_of protocol) aim (λ nf. IsTrueOf nf protocol aim run answer) → answer_status answer ≡ 0 →
+    OfNormalForms (theory_of protocol) aim (λ nf. Reaches nf protocol aim run)
 reaches_at protocol aim run replay.Reaches is z = is
 reaches_at protocol aim run (replay.Stops step why) is z = absurd (omega (arith, z))
 reaches_at protocol aim run (replay.Misses part) is z = absurd (omega (arith, z))
@@ -176,7 +177,8 @@ told_reaches told rose words text status is z = of_shown is.shown z
     of_module_shown so (long_module r l) nought = absurd (omega (arith, nought))
     of_module_shown so (refused_module error text status r line) nought = not_zero status (refusal_told error text status line) nought
     of_module_shown so (groundless source fault r f) nought = not_zero (ground_status fault) (ground_told fault) nought
-    of_module_shown so (no_aim source r f a) nought = absurd (omega (arith, nought))
+    of_module_shown so (wrong_equation source number r f w) nought = absurd (omega (arith, nought))
+    of_module_shown so (no_aim source r f w a) nought = absurd (omega (arith, nought))
     of_module_shown so (of_run source aim text status p shown) nought = of_run_shown source aim so p shown nought
 
     of_shown : {text : List ℕ} {status : ℕ} → Shown told rose words text status → status ≡ 0 → RunReaches told words

@@ -62,6 +62,10 @@ abbrev pub ground_status : GroundFault → ℕ
 ground_status (ground_fault.Inhabited s) = 3
 ground_status (ground_fault.Ground s n) = 7
 
+-- the text where an equation doesn't cancel, by its number from 1
+abbrev pub refused_equation : ℕ → List ℕ
+refused_equation number = numbered (codes "refused equation ") number ++ codes "\n"
+
 abbrev pub refused_no_aim : List ℕ → List ℕ
 refused_no_aim word = codes "refused no aim " ++ (word ++ codes "\n")
 

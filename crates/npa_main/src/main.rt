@@ -36,3 +36,14 @@ fn words_of(rt: &HostRuntime) -> io::Result<Words> {
     }
     Ok(words)
 }
+
+#[cfg(test)]
+mod answers;
+#[cfg(test)]
+mod equation_tests;
+#[cfg(test)]
+mod long_tests;
+#[cfg(test)]
+mod module_tests;
+#[cfg(test)]
+mod run_tests;

@@ -1,7 +1,7 @@
 //! The printed texts.
 
 ghost use Rattle.std.specs.Prelude.{◌≡◌, ◌++◌, codes, Some, OnOk, IfOk};
-ghost use Rattle.npa_main.specs.Texts.{numbered, at_place, at_word, counted, refusal, ground_text, ground_status, refused_no_aim, invalid, at_param, param_name, cause_text, answer_text, answer_status};
+ghost use Rattle.npa_main.specs.Texts.{numbered, at_place, at_word, counted, refusal, ground_text, ground_status, refused_equation, refused_no_aim, invalid, at_param, param_name, cause_text, answer_text, answer_status};
 
 use crate::run_text::{RunTextFail, params_at};
 use npa_model::{Cause, Run};
@@ -81,6 +81,17 @@ pub(crate) fn groundless(alloc: Global, sig: &Sig, fault: GroundFault) -> Result
             Ok(Printed { text, status: 7 })
         }
     }
+}
+
+/// The line for an equation that doesn't cancel, by its number from 1.
+pub(crate) fn refused_equation(alloc: Global, number: u64) -> Result<Printed, NoMemory>
+    ensures text { IfOk result (λ a. a.text.items ≡ refused_equation number) }
+    ensures status { IfOk result (λ a. a.status ≡ 3) }
+{
+    let mut text = Vec::new(alloc);
+    put_numbered(&mut text, b"refused equation ", number)?;
+    text.extend_from_slice(b"\n")?;
+    Ok(Printed { text, status: 3 })
 }
 
 /// The line for an aim that isn't in the module.

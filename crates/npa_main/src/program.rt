@@ -6,16 +6,19 @@ ghost use Rattle.std.specs.Result.{IsErrOf};
 ghost use Rattle.npa_text.specs.Counts.{Rose};
 ghost use Rattle.npa_model.specs.WellFormed.{IsWellFormedAim, IsWellFormedRun};
 ghost use Rattle.npa_module.specs.Forms.{IsWellFormedSource};
-ghost use Rattle.npa_main.specs.Answers.{IsFor, IsForRun, IsForModule, IsOnly, AreTold, Replayed, HasGroundFault, ReadFault, ReadFaultOf, Prints, PrintsFront, RunReaches, RoseFor, is_told, is_replay, word_at, aim_named};
+ghost use Rattle.npa_rewrite.specs.Rewriting.{AllCancel};
+ghost use Rattle.npa_main.specs.Answers.{IsFor, IsForRun, IsForModule, IsOnly, IsSettled, AreSettled, AreTold, HasEquationFault, theory_of, Replayed, HasGroundFault, ReadFault, ReadFaultOf, Prints, PrintsFront, RunReaches, RoseFor, is_told, is_replay, word_at, aim_named};
 
 use crate::files::{Halt, Loaded, load_module, load_run};
 use crate::printing::{
-    LIMIT_BYTES, Printed, USAGE, answered, groundless, invalid, refusal, refused_no_aim, told,
+    LIMIT_BYTES, Printed, USAGE, answered, groundless, invalid, refusal, refused_equation,
+    refused_no_aim, told,
 };
 use npa_model::{Aim, Run};
 use npa_module::Source;
 use npa_replay::replay;
-use npa_sig::GroundFault;
+use npa_rewrite::{Theory, is_cancelling};
+use npa_sig::{GroundFault, Protocol};
 use npa_term::NoMemory;
 use npa_text::{Files, PutFail, Sink, Words};
 use std::alloc::Global;
@@ -31,8 +34,12 @@ pub struct Ended {
 
 /// Does what the words ask for: `replay FILE AIM RUN` replays the run of the file RUN against an aim
 /// of the module of FILE. The module's text is looked at first: its length, its syntax, its limits, its
-/// names and sorts, and the ground terms of its sorts; then the aim's name; then the run's text in the
-/// same way; and then the run. The text is made first and written at once.
+/// names and sorts, the ground terms of its sorts, and the shape of its equations; then the aim's
+/// name; then the run's text in the same way; and then the run. The text is made first and written at
+/// once.
+///
+/// What is said of a run is promised where the module's theory is convergent and the aim is accepted,
+/// which isn't checked.
 #[tactic(auto, using(crate::proofs::Showing::reached_status, crate::proofs::Showing::told_reaches, crate::proofs::Showing::told_status))]
 pub fn npa_plain<F: Files, K: Sink>(
     alloc: Global,
@@ -45,10 +52,10 @@ pub fn npa_plain<F: Files, K: Sink>(
         → Prints (F.holds files.old) (RoseFor (F.longs files.old) (F.longs files.new)) words.now (K.written out.old) (K.written out.new) result.status }
 
     // `reaches` comes only of a run that reaches the aim, and where the files' texts are known, of
-    // each such run whose text is written.
+    // each such run whose text is written. Both are said of a convergent theory and an accepted aim.
     ensures reaches { result.status ≡ 0 → RunReaches (F.holds files.old) words.now }
     ensures reached { is_told result.status ≡ true → AreTold (F.holds files.old) words.now
-        → RunReaches (F.holds files.old) words.now → result.status ≡ 0 }
+        → AreSettled (F.holds files.old) words.now → RunReaches (F.holds files.old) words.now → result.status ≡ 0 }
     ensures unread { result.status ≡ 4
         → ReadFault (F.holds files.old) (RoseFor (F.faults files.old) (F.faults files.new)) words.now }
     ensures unwritten { result.status ≡ 5 → Rose (K.faults out.old) (K.faults out.new) }
@@ -105,9 +112,12 @@ fn module_text<F: Files>(
     };
     match ground_fault(alloc, &source)? {
         Some(fault) => Ok(groundless(alloc, &source.protocol.sig, fault)?),
-        None => match find_aim(source.aims.as_slice(), name.as_bytes()) {
-            Some(aim) => run_text(alloc, files, run, &source, aim),
-            None => Ok(refused_no_aim(alloc, name.as_bytes())?),
+        None => match wrong_equation(&source.protocol) {
+            Some(number) => Ok(refused_equation(alloc, number)?),
+            None => match find_aim(source.aims.as_slice(), name.as_bytes()) {
+                Some(aim) => run_text(alloc, files, run, &source, aim),
+                None => Ok(refused_no_aim(alloc, name.as_bytes())?),
+            },
         },
     }
 }
@@ -122,6 +132,7 @@ fn run_text<F: Files>(
 ) -> Result<Printed, Halt>
     requires source { IsWellFormedSource source.now }
     requires aim { IsWellFormedAim source.now.protocol.sig source.now.protocol.strands aim.now }
+    requires cancelling { AllCancel (theory_of source.now.protocol) }
     ensures shown { IfOk result (λ a. IsForRun (F.holds files.old name.now) (RoseFor (F.longs files.old) (F.longs files.new) name.now) source.now.protocol aim.now a.text.items a.status) }
     ensures fault { IsErrOf result Halt.Fault → RoseFor (F.faults files.old) (F.faults files.new) name.now }
 {
@@ -137,10 +148,12 @@ fn replayed(alloc: Global, source: &Source, aim: &Aim, run: &Run) -> Result<Prin
     requires source { IsWellFormedSource source.now }
     requires aim { IsWellFormedAim source.now.protocol.sig source.now.protocol.strands aim.now }
     requires run { IsWellFormedRun source.now.protocol.sig run.now }
+    requires cancelling { AllCancel (theory_of source.now.protocol) }
     ensures replayed { IfOk result (λ a. Replayed source.now.protocol aim.now run.now a.text.items a.status) }
-    ensures only { IfOk result (λ a. IsOnly (Replayed source.now.protocol aim.now run.now) a.text.items a.status) }
+    ensures only { IfOk result (λ a. IsSettled source.now.protocol aim.now → IsOnly (Replayed source.now.protocol aim.now run.now) a.text.items a.status) }
 {
-    let answer = replay(alloc, &source.protocol, aim, run)?;
+    let th = Theory::of(alloc, &source.protocol)?;
+    let answer = replay(alloc, &th, &source.protocol, aim, run)?;
     answered(alloc, &source.protocol, run, &answer)
 }
 
@@ -153,6 +166,20 @@ fn ground_fault(alloc: Global, source: &Source) -> Result<Option<GroundFault>, N
         Ok(fault) => Ok(fault),
         Err(_) => Err(NoMemory),
     }
+}
+
+// The number, from 1, of the first equation that doesn't cancel.
+fn wrong_equation(protocol: &Protocol) -> Option<u64>
+    ensures { HasEquationFault protocol.now result }
+{
+    let sorts = protocol.sig.sorts();
+    let equations = protocol.equations.as_slice();
+    for i in 0..equations.len() {
+        if !is_cancelling(sorts, &equations[i]) {
+            return Some(i as u64 + 1);
+        }
+    }
+    None
 }
 
 // Whether the words are `replay` and three further words.

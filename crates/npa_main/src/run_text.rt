@@ -283,7 +283,7 @@ fn read_value(
     ensures { Gives result (value_read bytes.now tokens.now protocol.now node.now) }
 {
     let raw = raw_of(alloc, tokens, child_for(GROUND, node))?;
-    let none: Scope = List::new(alloc);
+    let none = Scope::new(alloc);
     match resolve(alloc, &protocol.sig, &none, bytes, &raw) {
         Ok(term) => Ok(term),
         Err(fail) => Err(refusal_of(fail)),
