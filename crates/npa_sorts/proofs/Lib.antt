@@ -3,3 +3,4 @@ pub mod TableLemmas
 pub mod Lowers
 pub mod Climbs
 pub mod Grown
+pub mod LowerLaws

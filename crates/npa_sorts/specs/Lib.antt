@@ -1,2 +1,3 @@
+pub mod Lowers
 pub mod Subsorts
 pub mod Table

@@ -7,6 +7,3 @@ mod table;
 
 pub use error::{NoMemory, SortFail};
 pub use sorts::{FRESH, MSG, SortNums, SortPair, SortPairs, Sorts};
-
-#[cfg(test)]
-mod tests;

@@ -1,6 +1,7 @@
 ghost use Rattle.std.specs.Prelude.{◌≡◌, ◌≢◌, ◌<◌, ◌≤◌, ◌+◌, ◌↔◌, ℕ, None, Some, IsTrue, Contains, [], ◌∷◌, ◌++◌, false, IfOk, OnOk, OnErr, IsErrOf, position};
 ghost use Rattle.std.specs.Bool.{OnTrue, OnFalse};
 ghost use Rattle.std.specs.List.Sorted.{IsStrictlyIncreasing};
+ghost use Rattle.npa_sorts.specs.Lowers.{lowers};
 ghost use Rattle.npa_sorts.specs.Subsorts.{subsorts, at_or_below, IsSort, AreSorts, IsBelow, IsAtOrBelow, IsFirstInCycle, IsMaximalLower, IsPassedBy, names_fresh};
 
 use crate::error::{NoMemory, SortFail};
@@ -182,6 +183,7 @@ impl Sorts {
         ensures maximal { IfOk result (λ sorts.
             (r : ℕ) → Contains sorts r ↔ IsMaximalLower self.now s t r) }
         ensures ascending { IfOk result (λ sorts. IsStrictlyIncreasing sorts) }
+        ensures value { IfOk result (λ sorts. sorts ≡ lowers self.now s t) }
     {
         let mut found = List::new(alloc);
         for r in 0..self.declared + 2 {

@@ -1,6 +1,7 @@
 pub mod Decides
 pub mod Laws
 pub mod Folds
+pub mod Heads
 pub mod Reading
 pub mod Shapes
 pub mod Steps

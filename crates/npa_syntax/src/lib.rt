@@ -16,8 +16,6 @@ mod nodes;
 mod opening;
 mod production;
 mod reader;
-#[cfg(test)]
-mod tests;
 
 pub use fault::ReadFault;
 pub use grammar::Grammar;

@@ -35,3 +35,7 @@ mutual
       {n : _} (k : Row_of-Term n) → Each P (items-the_row-Term n k)
   by_rows P var name app end_of-Term = tt
   by_rows P var name app (more_of-Term t rest) = (by_terms P var name app t, by_rows P var name app rest)
+
+-- cases on a term, with the arguments of an operator as a list
+pub term_cases : (Q : Term → Type 0) → ((v : Variable) → Q (Var v)) → ((n : ℕ) → Q (Name n)) → ((op : Op) (ts : List Term) → Q (App op ts)) → (t : Term) → Q t
+term_cases Q var name app t = by_terms Q var name (λ op ts each. app op ts) t

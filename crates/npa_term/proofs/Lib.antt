@@ -2,10 +2,14 @@ pub mod AgreeingLaws
 pub mod AppliedLaws
 pub mod Bindings
 pub mod CanonicalLaws
+pub mod Compared
 pub mod CompositionLaws
+pub mod Equality
 pub mod GroundLaws
+pub mod Identity
 pub mod Induction
 pub mod OrderLaws
+pub mod Parts
 pub mod Rows
 pub mod RenamedLaws
 pub mod SameCases

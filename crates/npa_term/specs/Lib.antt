@@ -2,7 +2,9 @@ pub mod Agreeing
 pub mod Bound
 pub mod Canonical
 pub mod Composition
+pub mod Computed
 pub mod Order
+pub mod Parts
 pub mod Same
 pub mod Symbols
 pub mod Variables

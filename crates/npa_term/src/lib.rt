@@ -3,6 +3,7 @@
 #![tactic(auto)]
 
 mod canonical;
+mod commuted;
 mod composition;
 mod equal;
 mod error;
@@ -15,6 +16,7 @@ mod subst;
 mod term;
 
 pub use canonical::{canon, sort_arguments};
+pub use commuted::equals;
 pub use composition::compose;
 pub use equal::same;
 pub use error::{NoMemory, TermFail};
@@ -27,7 +29,4 @@ pub use order::cmp;
 pub use renaming::rename;
 pub use size::symbols;
 pub use subst::{Binding, Subst, Substs};
-pub use term::{Op, Term, TermPair, TermPairs, Terms, Var, copy, copy_all};
-
-#[cfg(test)]
-mod tests;
+pub use term::{Op, Term, TermPair, TermPairs, Terms, Var, copy, copy_all, sort_of};

@@ -1,4 +1,5 @@
 ghost use Rattle.std.specs.Prelude.{◌≡◌, IfOk};
+ghost use Rattle.npa_term.specs.Parts.{least_sort};
 
 use crate::error::NoMemory;
 use npa_list::List;
@@ -37,6 +38,21 @@ pub type TermPair = (Term, Term);
 
 /// A list of pairs of terms.
 pub type TermPairs = List<TermPair>;
+
+// The number of the sort of fresh names.
+const FRESH: u16 = 1;
+
+/// The least sort of a term: a variable's own, `Fresh` for a fresh name, and the result sort of an
+/// operator.
+pub fn sort_of(t: &Term) -> u16
+    ensures { result ≡ least_sort t.now }
+{
+    match t {
+        Term::Var(v) => v.sort,
+        Term::Name(_) => FRESH,
+        Term::App(op, _) => op.result,
+    }
+}
 
 /// A copy of a term.
 pub fn copy(alloc: Global, t: &Term) -> Result<Term, NoMemory>
