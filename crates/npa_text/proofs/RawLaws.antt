@@ -8,7 +8,7 @@ use Rattle.npa_text.specs.declared.token.Raw.{Raw}
 use Rattle.npa_text.specs.Raws.{is_term, term_with, token_at, terms_over, terms_in, terms_of, raw_of}
 
 -- what a node stands for, by its children
-terms_at : (tokens : List Token) (n : Node)
+pub terms_at : (tokens : List Token) (n : Node)
     → terms_in tokens n ≡ cond (is_term (symbol_of n)) (raw_of tokens n ∷ []) (terms_of tokens (children_of n))
 terms_at tokens n = fold_node_at (terms_over tokens) n
 

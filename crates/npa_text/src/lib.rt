@@ -26,6 +26,7 @@ pub use grammars::{MOST_NESTED, module_grammar, run_grammar, term_grammar};
 pub use memory::{Marks, MemEntries, MemEntry, MemFiles, MemSink};
 pub use name::{Name, Names, Word, Words};
 pub use number::put_number;
+pub use numeral::numeral_in;
 pub use outside::{Files, PutFail, ReadFail, Sink};
 pub use parser::{Parsed, parse};
 pub use place::{Place, end_place};
@@ -35,8 +36,3 @@ pub use scan::{lex, tokens};
 pub use term_reader::raw_term;
 pub use token::{Kind, Lexed, MOST_BYTES, Raw, Raws, Token, Tokens, number_of, token_text};
 pub use words::{terminal_kind, word_kind};
-
-#[cfg(test)]
-mod parser_tests;
-#[cfg(test)]
-mod tests;

@@ -1,5 +1,7 @@
 ghost use Rattle.std.specs.Prelude.{◌≡◌, min};
-ghost use Rattle.npa_text.specs.Numerals.{decimal_value, is_plain, is_numeral};
+ghost use Rattle.npa_text.specs.Numerals.{decimal_value, is_plain, is_numeral, numeral_in};
+
+use crate::bytes::digit_run;
 
 /// The first number that is no 32-bit one.
 const PAST: u64 = 4_294_967_296;
@@ -36,4 +38,18 @@ pub(crate) fn is_numeral(digits: &[u8], least: u32, most: u32) -> bool
     }
     let value = decimal_value(digits);
     least as u64 <= value && value <= most as u64
+}
+
+/// The number that a word of decimal digits stands for, without a leading zero and from `least` to
+/// `most`.
+pub fn numeral_in(word: &[u8], least: u32, most: u32) -> Option<u32>
+    ensures { result ≡ numeral_in least most word.now }
+{
+    if digit_run(word) != word.len() {
+        return None;
+    }
+    if !is_numeral(word, least, most) {
+        return None;
+    }
+    Some(decimal_value(word) as u32)
 }

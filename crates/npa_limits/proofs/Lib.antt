@@ -1,0 +1,3 @@
+pub mod LimitLaws
+pub mod TallyLaws
+pub mod KeptLimits

@@ -1,0 +1,4 @@
+pub mod Later
+pub mod Limits
+pub mod Tallies
+pub mod Within
