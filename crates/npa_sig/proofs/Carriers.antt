@@ -8,7 +8,7 @@ use Rattle.npa_sorts.proofs.Steps.{at_or_below_trans}
 use Rattle.npa_sorts.proofs.Climbs.{decides}
 use Rattle.npa_sig.specs.declared.signature.OpDecl.{OpDecl}
 use Rattle.npa_sig.specs.Signature.{Signature}
-use Rattle.npa_sig.specs.Least.{HaveSorts}
+use Rattle.npa_sig.specs.Operators.{HaveSorts}
 use Rattle.npa_sig.specs.Sizes.{IsFirstOp}
 use Rattle.npa_sig.specs.Nameless.{CarriesNames, fresh_names, through, AreCarriers, any_marked, hands_names}
 use Rattle.npa_sig.proofs.LeastTerms.{never_passes}

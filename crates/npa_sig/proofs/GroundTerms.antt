@@ -14,8 +14,10 @@ use Rattle.npa_term.proofs.Induction.{Each, by_terms}
 use Rattle.npa_term.proofs.GroundLaws.{ground_app, ground_arguments}
 use Rattle.npa_sig.specs.declared.signature.OpDecl.{OpDecl}
 use Rattle.npa_sig.specs.Signature.{Signature}
-use Rattle.npa_sig.specs.Sorting.{sort_of, well_sorted, agrees, same_bool, all_below, is_declared}
-use Rattle.npa_sig.specs.Least.{declared_op, IsBuilt, a_name, an_application, AreBuilt, no_arguments, an_argument, IsBuiltOf, IsTermOf, IsEmpty, IsLeastCount, IsLeastTerm, IsLeastIn, IsLeastOf, IsSmall, IsInhabited, IsGroundFault, HaveSorts}
+use Rattle.npa_sig.specs.Sorting.{well_sorted, agrees, same_bool, all_below, is_declared}
+use Rattle.npa_term.specs.Parts.{least_sort}
+use Rattle.npa_sig.specs.Least.{declared_op, IsBuilt, a_name, an_application, AreBuilt, no_arguments, an_argument, IsBuiltOf, IsTermOf, IsEmpty, IsLeastCount, IsLeastTerm, IsLeastIn, IsLeastOf, IsSmall, IsInhabited, IsGroundFault}
+use Rattle.npa_sig.specs.Operators.{HaveSorts}
 use Rattle.npa_sig.specs.Sizes.{AreSizes, IsFirstEmpty, IsFirstPast}
 use Rattle.npa_sig.specs.declared.fault.GroundFault.TheVariants.{Inhabited, Ground}
 use Rattle.npa_sig.proofs.Rows.{well_sorted_at}
@@ -41,17 +43,17 @@ module _ (sig : Signature) where
         let op = declared_op num decl in
         let parts = arguments_sorted args in
         well_sorted_at sig (App (declared_op num decl) ts) (declared_op num decl) ts refl
-        ∙ and_from (is_declared sig (declared_op num decl) (map sort_of ts) (slice_get sig.ops num)) (list_all (well_sorted sig) ts)
-        (ap (is_declared sig (declared_op num decl) (map sort_of ts)) at
-        ∙ and_from (agrees (declared_op num decl) decl) (all_below sig (map sort_of ts) decl.args)
+        ∙ and_from (is_declared sig (declared_op num decl) (map least_sort ts) (slice_get sig.ops num)) (list_all (well_sorted sig) ts)
+        (ap (is_declared sig (declared_op num decl) (map least_sort ts)) at
+        ∙ and_from (agrees (declared_op num decl) decl) (all_below sig (map least_sort ts) decl.args)
         (and_from (decl.result == decl.result) (same_bool decl.«com» decl.«com») (eq-eqb decl.result decl.result refl) (same_itself decl.«com»)) parts.0)
         parts.1
 
-    arguments_sorted : {ss : List ℕ} {ts : List Term} → AreBuilt sig.sorts sig.ops ss ts → (all_below sig (map sort_of ts) ss ≡ true) × (list_all (well_sorted sig) ts ≡ true)
+    arguments_sorted : {ss : List ℕ} {ts : List Term} → AreBuilt sig.sorts sig.ops ss ts → (all_below sig (map least_sort ts) ss ≡ true) × (list_all (well_sorted sig) ts ≡ true)
     arguments_sorted no_arguments = (refl, refl)
     arguments_sorted (an_argument s t ss ts b under rest) =
         let later = arguments_sorted rest in (
-          and_from (at_or_below sig.sorts (sort_of t) s) (all_below sig (map sort_of ts) ss) ((decides sig.sorts (sort_of t) s).1 under) later.0,
+          and_from (at_or_below sig.sorts (least_sort t) s) (all_below sig (map least_sort ts) ss) ((decides sig.sorts (least_sort t) s).1 under) later.0,
           and_from (well_sorted sig t) (list_all (well_sorted sig) ts) (built_sorted b) later.1,
         )
 
@@ -66,20 +68,20 @@ module _ (sig : Signature) where
 
   -- and what is well sorted and has no variables is built
   arguments_built : (ss : List ℕ) (ts : List Term) → Each (λ t. well_sorted sig t ≡ true → IsGround t → IsBuilt sig.sorts sig.ops t) ts → list_all (well_sorted sig) ts ≡ true → Each IsGround ts →
-      all_below sig (map sort_of ts) ss ≡ true → AreBuilt sig.sorts sig.ops ss ts
+      all_below sig (map least_sort ts) ss ≡ true → AreBuilt sig.sorts sig.ops ss ts
   arguments_built [] [] each sorted ground_each below = no_arguments
   arguments_built [] (t ∷ ts) each sorted ground_each below = absurd (let no : ⊥ = cc in no)
   arguments_built (s ∷ ss) [] each sorted ground_each below = absurd (let no : ⊥ = cc in no)
   arguments_built (s ∷ ss) (t ∷ ts) each sorted ground_each below =
       let here = and_parts (well_sorted sig t) (list_all (well_sorted sig) ts) sorted in
-      let under = and_parts (at_or_below sig.sorts (sort_of t) s) (all_below sig (map sort_of ts) ss) below in
-      an_argument s t ss ts (each.0 here.0 ground_each.0) ((decides sig.sorts (sort_of t) s).0 under.0) (arguments_built ss ts each.1 here.1 ground_each.1 under.1)
+      let under = and_parts (at_or_below sig.sorts (least_sort t) s) (all_below sig (map least_sort ts) ss) below in
+      an_argument s t ss ts (each.0 here.0 ground_each.0) ((decides sig.sorts (least_sort t) s).0 under.0) (arguments_built ss ts each.1 here.1 ground_each.1 under.1)
 
-  declared_built : (op : Op) (ts : List Term) (found : Option OpDecl) → slice_get sig.ops op.num ≡ found → is_declared sig op (map sort_of ts) found ≡ true → list_all (well_sorted sig) ts ≡ true → Each IsGround ts →
+  declared_built : (op : Op) (ts : List Term) (found : Option OpDecl) → slice_get sig.ops op.num ≡ found → is_declared sig op (map least_sort ts) found ≡ true → list_all (well_sorted sig) ts ≡ true → Each IsGround ts →
       Each (λ t. well_sorted sig t ≡ true → IsGround t → IsBuilt sig.sorts sig.ops t) ts → IsBuilt sig.sorts sig.ops (App op ts)
   declared_built op ts None at declared sorted ground_each each = absurd (let no : ⊥ = cc in no)
   declared_built op ts (Some decl) at declared sorted ground_each each =
-      let parts = and_parts (agrees op decl) (all_below sig (map sort_of ts) decl.args) declared in
+      let parts = and_parts (agrees op decl) (all_below sig (map least_sort ts) decl.args) declared in
       let agreed = and_parts (op.result == decl.result) (same_bool op.«com» decl.«com») parts.0 in
       let result : op.result ≡ decl.result = eqb-true op.result decl.result agreed.0 in
       let commutes : op.«com» ≡ decl.«com» = same_is op.«com» decl.«com» agreed.1 in
@@ -91,7 +93,7 @@ module _ (sig : Signature) where
   sorted_built =
       by_terms (λ t. well_sorted sig t ≡ true → IsGround t → IsBuilt sig.sorts sig.ops t) (λ v sorted g. absurd (let no : ⊥ = cc in no)) (λ n sorted g. a_name n)
       (λ op ts each sorted g.
-      let parts = and_parts (is_declared sig op (map sort_of ts) (slice_get sig.ops op.num)) (list_all (well_sorted sig) ts) (sym (well_sorted_at sig (App op ts) op ts refl) ∙ sorted) in
+      let parts = and_parts (is_declared sig op (map least_sort ts) (slice_get sig.ops op.num)) (list_all (well_sorted sig) ts) (sym (well_sorted_at sig (App op ts) op ts refl) ∙ sorted) in
       declared_built op ts (slice_get sig.ops op.num) refl parts.0 parts.1 (ground_arguments op ts g) each)
 
   pub term_built : (s : ℕ) (t : Term) → IsTermOf sig s t → IsBuiltOf sig.sorts sig.ops s t

@@ -15,7 +15,8 @@ use Rattle.npa_sig.specs.declared.meaning.Head.{Head}
 use Rattle.npa_sig.specs.declared.meaning.Head.TheVariants.{Variable, Fresh, Operator}
 use Rattle.npa_sig.specs.declared.signature.OpDecl.{OpDecl}
 use Rattle.npa_sig.specs.Signature.{Signature, number_of}
-use Rattle.npa_sig.specs.Meaning.{operator_at, head_of, word_head, is_fresh_name, fits, with_args, in_front, judged, unfit, read, read_row, sorts_of_row, Gives}
+use Rattle.npa_reading.specs.Reading.{mapped, in_front}
+use Rattle.npa_sig.specs.Meaning.{operator_at, head_of, word_head, is_fresh_name, fits, built, judged, unfit, read, read_row, sorts_of_row, Gives}
 
 -- the head is no variable
 abbrev IsOperator : Option Head → Type 0
@@ -64,20 +65,20 @@ judged_ground sig bytes token None sorts args is gs = tt
 judged_ground sig bytes token (Some (Variable v)) sorts args is gs = absurd is
 judged_ground sig bytes token (Some (Fresh n)) sorts args is gs = chosen (fits sig (Fresh n) sorts)
   where
-    built_ground : (rs : Result (List Term) UseFail) → GroundRead (with_args (Fresh n) rs)
+    built_ground : (rs : Result (List Term) UseFail) → GroundRead (mapped (built (Fresh n)) rs)
     built_ground (Ok ts) = refl
     built_ground (Err e) = tt
 
-    chosen : (b : Bool) → GroundRead (cond b (with_args (Fresh n) args) (Err (unfit bytes token)))
+    chosen : (b : Bool) → GroundRead (cond b (mapped (built (Fresh n)) args) (Err (unfit bytes token)))
     chosen true = built_ground args
     chosen false = tt
 judged_ground sig bytes token (Some (Operator op)) sorts args is gs = chosen (fits sig (Operator op) sorts)
   where
-    built_ground : (rs : Result (List Term) UseFail) → AreGround rs → GroundRead (with_args (Operator op) rs)
+    built_ground : (rs : Result (List Term) UseFail) → AreGround rs → GroundRead (mapped (built (Operator op)) rs)
     built_ground (Ok ts) each = ground_app op ts each
     built_ground (Err e) each = tt
 
-    chosen : (b : Bool) → GroundRead (cond b (with_args (Operator op) args) (Err (unfit bytes token)))
+    chosen : (b : Bool) → GroundRead (cond b (mapped (built (Operator op)) args) (Err (unfit bytes token)))
     chosen true = built_ground args gs
     chosen false = tt
 

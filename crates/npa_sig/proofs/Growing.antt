@@ -8,7 +8,8 @@ use Rattle.npa_term.specs.declared.term.Term.{Term, App}
 use Rattle.npa_term.proofs.Induction.{Each, by_terms}
 use Rattle.npa_sig.specs.declared.signature.OpDecl.{OpDecl}
 use Rattle.npa_sig.specs.Signature.{Signature, with_sort, with_subsort, with_op}
-use Rattle.npa_sig.specs.Sorting.{is_sort, is_below, sort_of, agrees, all_below, is_declared, well_sorted}
+use Rattle.npa_sig.specs.Sorting.{is_sort, is_below, agrees, all_below, is_declared, well_sorted}
+use Rattle.npa_term.specs.Parts.{least_sort}
 use Rattle.npa_sig.proofs.Rows.{well_sorted_at}
 
 -- what is in a signature is in another
@@ -130,11 +131,11 @@ module _ (small large : Signature) (grows : Grows small large) where
   still_sorted =
       by_terms (λ t. well_sorted small t ≡ true → well_sorted large t ≡ true) (λ v e. grows.sorts v.sort e) (λ n e. e)
       (λ op ts each e.
-      let parts : (is_declared small op (map sort_of ts) (slice_get small.ops op.num) && list_all (well_sorted small) ts) ≡ true = sym (well_sorted_at small (App op ts) op ts refl) ∙ e in
+      let parts : (is_declared small op (map least_sort ts) (slice_get small.ops op.num) && list_all (well_sorted small) ts) ≡ true = sym (well_sorted_at small (App op ts) op ts refl) ∙ e in
       well_sorted_at large (App op ts) op ts refl
-      ∙ both (is_declared large op (map sort_of ts) (slice_get large.ops op.num)) (list_all (well_sorted large) ts)
-      (declared_still op (map sort_of ts) (first_true (is_declared small op (map sort_of ts) (slice_get small.ops op.num)) (list_all (well_sorted small) ts) parts))
-      (all_still ts each (second_true (is_declared small op (map sort_of ts) (slice_get small.ops op.num)) (list_all (well_sorted small) ts) parts)))
+      ∙ both (is_declared large op (map least_sort ts) (slice_get large.ops op.num)) (list_all (well_sorted large) ts)
+      (declared_still op (map least_sort ts) (first_true (is_declared small op (map least_sort ts) (slice_get small.ops op.num)) (list_all (well_sorted small) ts) parts))
+      (all_still ts each (second_true (is_declared small op (map least_sort ts) (slice_get small.ops op.num)) (list_all (well_sorted small) ts) parts)))
 
   pub still_below : (ss ts : List ℕ) → all_below small ss ts ≡ true → all_below large ss ts ≡ true
   still_below = below_still

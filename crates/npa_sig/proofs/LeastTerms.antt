@@ -1,10 +1,9 @@
 -- The least terms of a sort are those of the first operator of the sort's size, on the least terms
 -- of its argument sorts.
 use Rattle.std.proofs.Common.{◌≡◌, ◌≢◌, ℕ, zero, suc, ◌+◌, ◌<◌, ◌≤◌, ◌-◌, ◌^◌, min, Bool, true, false, List, [], ◌∷◌, ◌++◌, Option, None, Some, take, length, get_or, Ordering, Less, Equal, Greater, refl, sym, ◌∙◌, ap, subst, inl, inr, arith}
-use Rattle.std.specs.Prelude.{All, IfSome, IsSomeAnd, slice_get}
+use Rattle.std.specs.Prelude.{All, IfSome, IsSomeAnd, slice_get, cond, ◌==◌}
 use Rattle.std.specs.Option.{option_and_then}
 use Rattle.std.specs.Ordering.{nat_cmp, ordering_then}
-use Rattle.std.specs.Prelude.{cond, ◌==◌}
 use Rattle.std.specs.Cmp.Lexicographic.{slice_cmp}
 use Rattle.std.proofs.lemmas.Bool.{and_parts, and_from, eqb-true, eq-eqb, cases_lt, cases_eq, lt-ltb, le-ltb}
 use Rattle.std.proofs.lemmas.List.{take_more, get_or-take, length-take}
@@ -19,8 +18,9 @@ use Rattle.npa_term.specs.Order.{term_cmp}
 use Rattle.npa_term.specs.Symbols.{symbol_count, all_count}
 use Rattle.npa_term.proofs.Rows.{cmp_apps}
 use Rattle.npa_sig.specs.declared.signature.OpDecl.{OpDecl}
-use Rattle.npa_sig.specs.Sorting.{sort_of}
-use Rattle.npa_sig.specs.Least.{declared_op, IsBuilt, a_name, an_application, AreBuilt, no_arguments, an_argument, IsBuiltOf, IsEmpty, IsLeastCount, IsLeastTerm, IsLeastIn, HaveSorts}
+use Rattle.npa_term.specs.Parts.{least_sort}
+use Rattle.npa_sig.specs.Least.{declared_op, IsBuilt, a_name, an_application, AreBuilt, no_arguments, an_argument, IsBuiltOf, IsEmpty, IsLeastCount, IsLeastTerm, IsLeastIn}
+use Rattle.npa_sig.specs.Operators.{HaveSorts}
 use Rattle.npa_sig.specs.Sizes.{summed, same_size, is_least_op, IsFirstOp, IsSizeOf, AreSizes}
 use Rattle.npa_sig.proofs.SizeLaws.{count_app, option_cases, known_count, filled, some_symbol}
 
@@ -211,7 +211,7 @@ module _ (o : Subsorts) (ops : List OpDecl) (sizes : List (Option ℕ)) (known :
   }
 
   -- where no operator passes there is no term
-  count_unpassed : (s n : ℕ) {u : Term} → IsBuilt o ops u → IsAtOrBelow o (sort_of u) s → (IsAtOrBelow o 1 s → ⊥) → get_or sizes s None ≡ Some n → n ≤ 64 → min (symbol_count u) (2 ^ 64 - 1) ≡ n →
+  count_unpassed : (s n : ℕ) {u : Term} → IsBuilt o ops u → IsAtOrBelow o (least_sort u) s → (IsAtOrBelow o 1 s → ⊥) → get_or sizes s None ≡ Some n → n ≤ 64 → min (symbol_count u) (2 ^ 64 - 1) ≡ n →
       All (λ decl. is_least_op o sizes s decl ≡ false) ops → ⊥
   count_unpassed s n (a_name m) under not_name some small count all = not_name under
   count_unpassed s n (an_application num decl us at args) under not_name some small count all =
@@ -256,7 +256,7 @@ module _ (o : Subsorts) (ops : List OpDecl) (sizes : List (Option ℕ)) (known :
         some_same : {a b : OpDecl} → Some a ≡ Some b → a ≡ b
         some_same {a} e = ap (λ x. elim x [ None ↦ a | Some y ↦ y ]) e
 
-    made_first : {u : Term} → IsBuilt o ops u → IsAtOrBelow o (sort_of u) s → symbol_count u ≡ symbol_count (App (declared_op num decl) ts) → term_cmp (App (declared_op num decl) ts) u ≢ Greater
+    made_first : {u : Term} → IsBuilt o ops u → IsAtOrBelow o (least_sort u) s → symbol_count u ≡ symbol_count (App (declared_op num decl) ts) → term_cmp (App (declared_op num decl) ts) u ≢ Greater
     made_first (a_name m) below count = absurd (not_name below)
     made_first (an_application num' decl' us at' args') below count =
         let other : symbol_count (App (declared_op num' decl') us) ≡ 1 + all_count us = count_app num' decl' us in

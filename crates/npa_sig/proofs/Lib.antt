@@ -1,5 +1,6 @@
 pub mod Rows
 pub mod Declared
+pub mod Operators
 pub mod Meanings
 pub mod Scoping
 pub mod Prints
@@ -12,3 +13,7 @@ pub mod Carriers
 pub mod Sorted
 pub mod Growing
 pub mod Places
+pub mod Under
+pub mod SortedTerms
+pub mod Bindings
+pub mod Unnamed

@@ -6,23 +6,24 @@ use Rattle.npa_term.specs.declared.term.Op.{Op}
 use Rattle.npa_term.specs.declared.term.Term.{Term, App, Row_of-Term, end_of-Term, more_of-Term, items-the_row-Term, items_hidden-the_row-Term-0}
 use Rattle.npa_term.specs.declared.term.Term.TheBlock.{hidden-the_row-Term-0}
 use Rattle.npa_sig.specs.Signature.{Signature}
-use Rattle.npa_sig.specs.Sorting.{sort_of, well_sorted, well_sorted_row, sorts_of_row, is_declared}
+use Rattle.npa_sig.specs.Sorting.{well_sorted, well_sorted_row, sorts_of_row, is_declared}
+use Rattle.npa_term.specs.Parts.{least_sort}
 
-sorts_items : {n : _} (k : Row_of-Term n) → sorts_of_row k ≡ map sort_of (items-the_row-Term n k)
+sorts_items : {n : _} (k : Row_of-Term n) → sorts_of_row k ≡ map least_sort (items-the_row-Term n k)
 sorts_items end_of-Term = refl
-sorts_items (more_of-Term t rest) = ap (λ ss. sort_of t ∷ ss) (sorts_items rest)
+sorts_items (more_of-Term t rest) = ap (λ ss. least_sort t ∷ ss) (sorts_items rest)
 
 well_sorted_items : {n : _} (sig : Signature) (k : Row_of-Term n) → well_sorted_row sig k ≡ list_all (well_sorted sig) (items-the_row-Term n k)
 well_sorted_items sig end_of-Term = refl
 well_sorted_items sig (more_of-Term t rest) = ap (λ b. well_sorted sig t && b) (well_sorted_items sig rest)
 
-pub well_sorted_at : (sig : Signature) (t : Term) (op : Op) (ts : List Term) → t ≡ App op ts → well_sorted sig t ≡ (is_declared sig op (map sort_of ts) (slice_get sig.ops op.num) && list_all (well_sorted sig) ts)
+pub well_sorted_at : (sig : Signature) (t : Term) (op : Op) (ts : List Term) → t ≡ App op ts → well_sorted sig t ≡ (is_declared sig op (map least_sort ts) (slice_get sig.ops op.num) && list_all (well_sorted sig) ts)
 well_sorted_at sig t op ts e =
     let k = hidden-the_row-Term-0 ts in
     let listed = items_hidden-the_row-Term-0 ts in
     ap (well_sorted sig) e
-    ∙ ap (λ ss. is_declared sig op ss (slice_get sig.ops op.num) && well_sorted_row sig k) (sorts_items k ∙ ap (map sort_of) listed)
-    ∙ ap (λ b. is_declared sig op (map sort_of ts) (slice_get sig.ops op.num) && b) (well_sorted_items sig k ∙ ap (list_all (well_sorted sig)) listed)
+    ∙ ap (λ ss. is_declared sig op ss (slice_get sig.ops op.num) && well_sorted_row sig k) (sorts_items k ∙ ap (map least_sort) listed)
+    ∙ ap (λ b. is_declared sig op (map least_sort ts) (slice_get sig.ops op.num) && b) (well_sorted_items sig k ∙ ap (list_all (well_sorted sig)) listed)
 
 pub well_sorted_step : (sig : Signature) (args : List Term) (k : ℕ) (d : Term) → k < length args →
     list_all (well_sorted sig) (drop k args) ≡ (well_sorted sig (get_or args k d) && list_all (well_sorted sig) (drop (k + 1) args))
@@ -31,7 +32,7 @@ well_sorted_step sig args k d p = rw (drop-cons args k d, add-one) refl
 -- t is an application; `given` and `items` are its arguments, as they were passed on and gone over
 module _ (sig : Signature) (t : Term) (op : Op) (ts given : List Term) (is : t ≡ App op ts) (passed : given ≡ ts) where
   abbrev declared : Bool
-  declared = is_declared sig op (map sort_of given) (slice_get sig.ops op.num)
+  declared = is_declared sig op (map least_sort given) (slice_get sig.ops op.num)
 
   at_given : well_sorted sig t ≡ (declared && list_all (well_sorted sig) given)
   at_given = well_sorted_at sig t op given (is ∙ ap (App op) (sym passed))

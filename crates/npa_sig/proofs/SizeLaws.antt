@@ -14,8 +14,9 @@ use Rattle.npa_term.specs.Symbols.{symbol_count, all_count}
 use Rattle.npa_term.proofs.Rows.{symbol_count_at}
 use Rattle.npa_sig.specs.declared.signature.OpDecl.{OpDecl}
 use Rattle.npa_sig.specs.declared.least.Offer.{Offer}
-use Rattle.npa_sig.specs.Sorting.{sort_of}
-use Rattle.npa_sig.specs.Least.{declared_op, IsBuilt, a_name, an_application, AreBuilt, no_arguments, an_argument, IsBuiltOf, IsLeastCount, HaveSorts}
+use Rattle.npa_term.specs.Parts.{least_sort}
+use Rattle.npa_sig.specs.Least.{declared_op, IsBuilt, a_name, an_application, AreBuilt, no_arguments, an_argument, IsBuiltOf, IsLeastCount}
+use Rattle.npa_sig.specs.Operators.{HaveSorts}
 use Rattle.npa_sig.specs.Sizes.{summed, offered, settled, IsCheapest, IsSizeOf, AreSizes}
 
 -- how many sorts have no size
@@ -98,7 +99,7 @@ module _ (o : Subsorts) (ops : List OpDecl) (sizes : List (Option ℕ)) (kept : 
       omega (arith, less))
 
   mutual
-    unsettled_count : {t : Term} → IsBuilt o ops t → (s : ℕ) → IsSort o s → IsAtOrBelow o (sort_of t) s → get_or sizes s None ≡ None → n ≤ symbol_count t
+    unsettled_count : {t : Term} → IsBuilt o ops t → (s : ℕ) → IsSort o s → IsAtOrBelow o (least_sort t) s → get_or sizes s None ≡ None → n ≤ symbol_count t
     unsettled_count (a_name m) s is under none = absurd (kept.names s is under none)
     unsettled_count (an_application num decl ts at args) s is under none =
         subst (λ x. n ≤ x) (sym (count_app num decl ts))
@@ -258,7 +259,7 @@ settle_kept o ops old new b kept have cheapest long is =
     }
 
 -- the least sort of a ground term is a sort, and so are those above it
-built_sort : {o : Subsorts} {ops : List OpDecl} {t : Term} → HaveSorts o ops → IsBuilt o ops t → IsSort o (sort_of t)
+built_sort : {o : Subsorts} {ops : List OpDecl} {t : Term} → HaveSorts o ops → IsBuilt o ops t → IsSort o (least_sort t)
 built_sort have (a_name n) = omega arith
 built_sort have (an_application num decl ts at args) = (have num decl at).0
 
@@ -272,7 +273,7 @@ settled_all o ops sizes kept have pairs cheapest = record {
   long = kept.long;
   exact = λ s. option_cases (IsSizeOf o ops s (get_or sizes s None)) (get_or sizes s None)
       (λ none. subst (IsSizeOf o ops s) (sym none) (λ t of.
-      let sort : IsSort o s = upper_sort o pairs (sort_of t) s (built_sort have of.0) of.1 in
+      let sort : IsSort o s = upper_sort o pairs (least_sort t) s (built_sort have of.0) of.1 in
       let more : symbol_count t + 1 ≤ symbol_count t = unsettled_count o ops sizes kept have (symbol_count t + 1) (none_offered sizes ops (symbol_count t + 1) cheapest) of.0 s sort of.1 none in
       let no : ⊥ = omega (arith, more) in
       no))

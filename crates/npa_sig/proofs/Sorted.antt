@@ -3,7 +3,7 @@
 use Rattle.std.proofs.Common.{◌≡◌, ℕ, Bool, true, false, ◌==◌, ◌&&◌, cond, List, [], ◌∷◌, Option, None, Some, Result, Ok, Err, map, slice_get, suc, get_or, refl, subst, ap, sym, ◌∙◌, Contains, arith}
 use Rattle.std.specs.Prelude.{IfOk}
 use Rattle.std.specs.List.{All, list_all, flat_map}
-use Rattle.std.specs.Option.{option_map, option_and_then}
+use Rattle.std.specs.Option.{option_map, option_and_then, option_or}
 use Rattle.std.specs.Str.{bytes_eq}
 use Rattle.std.proofs.lemmas.List.Elements.{All-append}
 use Rattle.npa_term.specs.declared.term.Var.{Var as Variable_}
@@ -19,8 +19,10 @@ use Rattle.npa_sig.specs.declared.meaning.Head.{Head}
 use Rattle.npa_sig.specs.declared.meaning.Head.TheVariants.{Variable, Fresh, Operator}
 use Rattle.npa_sig.specs.declared.signature.OpDecl.{OpDecl}
 use Rattle.npa_sig.specs.Signature.{Signature, number_of}
-use Rattle.npa_sig.specs.Sorting.{is_below, sort_of, same_bool, agrees, all_below, is_declared, well_sorted}
-use Rattle.npa_sig.specs.Meaning.{variable_of, operator_at, operator_of, word_head, is_fresh_name, head_of, head_sort, sort_at, one_fits, all_fit, fits_decl, fits, is_none_left, first_of_two, with_args, built, in_front, judged, unfit, read, read_row, sorts_of_row, Gives, scope_variables, IsSorted}
+use Rattle.npa_sig.specs.Sorting.{is_below, same_bool, agrees, all_below, is_declared, well_sorted}
+use Rattle.npa_reading.specs.Reading.{mapped, in_front}
+use Rattle.npa_sig.specs.Meaning.{variable_of, operator_at, operator_of, word_head, is_fresh_name, head_of, head_sort, sort_at, one_fits, all_fit, fits_decl, fits, is_none_left, built, judged, unfit, read, read_row, sorts_of_row, Gives, scope_variables, IsSorted}
+use Rattle.npa_term.specs.Parts.{least_sort}
 use Rattle.npa_sig.proofs.Rows.{well_sorted_at}
 
 own_variable : (word : List ℕ) (scope : List Scoped) (v : Variable_) → variable_of word scope ≡ Some v → Contains (scope_variables scope) v
@@ -82,7 +84,7 @@ module _ (sig : Signature) (scope : List Scoped) where
   good_word : (word : List ℕ) → IsGoodHead (word_head sig scope word)
   good_word word = from (variable_of word scope) refl
     where
-      from : (o : Option Variable_) → variable_of word scope ≡ o → IsGoodHead (first_of_two (option_map Variable o) (operator_of sig word))
+      from : (o : Option Variable_) → variable_of word scope ≡ o → IsGoodHead (option_or (option_map Variable o) (operator_of sig word))
       from (Some v) e = own_variable word scope v e
       from None e = good_operator_of word
 
@@ -95,7 +97,7 @@ module _ (sig : Signature) (scope : List Scoped) where
 
   -- what is known of a term that was read, whose first word tells this sort
   record IsRead (o : Option ℕ) (t : Term) : Type 0 where
-    told : o ≡ Some (sort_of t)
+    told : o ≡ Some (least_sort t)
     sorted : IsSorted sig scope → well_sorted sig t ≡ true
     own : All (Contains (scope_variables scope)) (variables t)
 
@@ -130,16 +132,16 @@ module _ (sig : Signature) (scope : List Scoped) where
   none_left [] (t ∷ ts) e are = absurd are
   none_left (o ∷ os) ts e are = cc
 
-  sorts_fit : (os : List (Option ℕ)) (ts : List Term) (sorts : List ℕ) → AreRead os ts → all_fit sig os sorts ≡ true → all_below sig (map sort_of ts) sorts ≡ true
+  sorts_fit : (os : List (Option ℕ)) (ts : List Term) (sorts : List ℕ) → AreRead os ts → all_fit sig os sorts ≡ true → all_below sig (map least_sort ts) sorts ≡ true
   sorts_fit [] [] [] are e = refl
   sorts_fit [] [] (s ∷ sorts) are e = cc
   sorts_fit [] (t ∷ ts) sorts are e = absurd are
   sorts_fit (o ∷ os) [] sorts are e = absurd are
   sorts_fit (o ∷ os) (t ∷ ts) [] are e = cc
   sorts_fit (o ∷ os) (t ∷ ts) (s ∷ sorts) are e =
-      let fit : (is_below sig (sort_of t) s && all_fit sig os sorts) ≡ true = subst (λ x. (one_fits sig x s && all_fit sig os sorts) ≡ true) are.0.told e in
-      both (is_below sig (sort_of t) s) (all_below sig (map sort_of ts) sorts) (first_true (is_below sig (sort_of t) s) (all_fit sig os sorts) fit)
-      (sorts_fit os ts sorts are.1 (second_true (is_below sig (sort_of t) s) (all_fit sig os sorts) fit))
+      let fit : (is_below sig (least_sort t) s && all_fit sig os sorts) ≡ true = subst (λ x. (one_fits sig x s && all_fit sig os sorts) ≡ true) are.0.told e in
+      both (is_below sig (least_sort t) s) (all_below sig (map least_sort ts) sorts) (first_true (is_below sig (least_sort t) s) (all_fit sig os sorts) fit)
+      (sorts_fit os ts sorts are.1 (second_true (is_below sig (least_sort t) s) (all_fit sig os sorts) fit))
 
   built_read : (h : Head) (os : List (Option ℕ)) (ts : List Term) → IsGood h → fits sig h os ≡ true → AreRead os ts → IsRead (Some (head_sort h)) (built h ts)
   built_read (Variable v) os ts good fit are = record {
@@ -156,8 +158,8 @@ module _ (sig : Signature) (scope : List Scoped) where
     told = refl;
     sorted = λ s.
         well_sorted_at sig (App op ts) op ts refl
-        ∙ both (is_declared sig op (map sort_of ts) (slice_get sig.ops op.num)) (list_all (well_sorted sig) ts)
-        (ap (is_declared sig op (map sort_of ts)) good.1 ∙ both (agrees op good.0) (all_below sig (map sort_of ts) good.0.args) good.2
+        ∙ both (is_declared sig op (map least_sort ts) (slice_get sig.ops op.num)) (list_all (well_sorted sig) ts)
+        (ap (is_declared sig op (map least_sort ts)) good.1 ∙ both (agrees op good.0) (all_below sig (map least_sort ts) good.0.args) good.2
         (sorts_fit os ts good.0.args are (ap (fits_decl sig os) (sym good.1) ∙ fit)))
         (all_sorted s os ts are);
     own = subst (All (Contains (scope_variables scope))) (sym (variables_at (App op ts) op ts refl)) (all_own os ts are);
@@ -168,11 +170,11 @@ module _ (sig : Signature) (scope : List Scoped) where
   judged_read bytes token None os args good are = tt
   judged_read bytes token (Some h) os args good are = from (fits sig h os) refl
     where
-      with_read : fits sig h os ≡ true → (r : Result (List Term) UseFail) → RowRead os r → TermRead (Some (head_sort h)) (with_args h r)
+      with_read : fits sig h os ≡ true → (r : Result (List Term) UseFail) → RowRead os r → TermRead (Some (head_sort h)) (mapped (built h) r)
       with_read fit (Ok ts) are = built_read h os ts good fit are
       with_read fit (Err e) are = tt
 
-      from : (b : Bool) → fits sig h os ≡ b → TermRead (Some (head_sort h)) (cond b (with_args h args) (Err (unfit bytes token)))
+      from : (b : Bool) → fits sig h os ≡ b → TermRead (Some (head_sort h)) (cond b (mapped (built h) args) (Err (unfit bytes token)))
       from true fit = with_read fit args are
       from false fit = tt
 
@@ -207,6 +209,6 @@ module _ (sig : Signature) (scope : List Scoped) where
     own_answer (Ok t) raw g = (given (Ok t) raw g).own
     own_answer (Err e) raw g = tt
 
-    pub told_answer : (answer : Result Term UseFail) (raw : Raw) → Gives answer (read sig scope bytes raw) → IfOk answer (λ t. sort_at sig scope bytes raw ≡ Some (sort_of t))
+    pub told_answer : (answer : Result Term UseFail) (raw : Raw) → Gives answer (read sig scope bytes raw) → IfOk answer (λ t. sort_at sig scope bytes raw ≡ Some (least_sort t))
     told_answer (Ok t) raw g = (given (Ok t) raw g).told
     told_answer (Err e) raw g = tt

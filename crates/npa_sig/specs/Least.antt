@@ -14,7 +14,8 @@ use Rattle.npa_sig.specs.declared.fault.LeastFail.TheVariants.{Past, NoMemory}
 use Rattle.npa_sig.specs.declared.fault.GroundFault.{GroundFault}
 use Rattle.npa_sig.specs.declared.fault.GroundFault.TheVariants.{Inhabited, Ground}
 use Rattle.npa_sig.specs.Signature.{Signature}
-use Rattle.npa_sig.specs.Sorting.{sort_of, well_sorted}
+use Rattle.npa_sig.specs.Sorting.{well_sorted}
+use Rattle.npa_term.specs.Parts.{least_sort}
 
 -- the operator of a number and a declaration, as it stands in terms
 abbrev pub declared_op : ℕ → OpDecl → Op
@@ -33,17 +34,17 @@ mutual
   pub data AreBuilt (o : Subsorts) (ops : List OpDecl) : List ℕ → List Term → Type 0 where
     no_arguments : AreBuilt o ops [] []
     an_argument : (s : ℕ) (t : Term) (ss : List ℕ) (ts : List Term) → IsBuilt o ops t →
-        IsAtOrBelow o (sort_of t) s → AreBuilt o ops ss ts → AreBuilt o ops (s ∷ ss) (t ∷ ts)
+        IsAtOrBelow o (least_sort t) s → AreBuilt o ops ss ts → AreBuilt o ops (s ∷ ss) (t ∷ ts)
 
 -- such a term of a sort: of a least sort at or below it
 abbrev pub IsBuiltOf : Subsorts → List OpDecl → ℕ → Term → Type 0
-IsBuiltOf o ops s t = IsBuilt o ops t × IsAtOrBelow o (sort_of t) s
+IsBuiltOf o ops s t = IsBuilt o ops t × IsAtOrBelow o (least_sort t) s
 
 -- A ground term of a sort: well sorted, without variables, of a least sort at or below the sort.
 pub record IsTermOf (sig : Signature) (s : ℕ) (t : Term) : Type 0 where
   pub sorted : well_sorted sig t ≡ true
   pub ground : IsGround t
-  pub below : IsAtOrBelow sig.sorts (sort_of t) s
+  pub below : IsAtOrBelow sig.sorts (least_sort t) s
 
 -- No term is in the set.
 abbrev pub IsEmpty : (Term → Type 0) → Type 0
@@ -92,14 +93,3 @@ IsGroundFault sig (Some (Inhabited s)) = IsSort sig.sorts s × IsEmpty (IsTermOf
 IsGroundFault sig (Some (Ground s n)) = IsSort sig.sorts s × (64 < n)
     × IsLeastCount (IsTermOf sig s) n × ((r : ℕ) → r < s → IsSmall sig r)
     × ((r : ℕ) → IsSort sig.sorts r → IsInhabited sig r)
-
--- Each of the numbers stands for a sort.
-abbrev pub AreSorts : Subsorts → List ℕ → Type 0
-AreSorts o sorts = (k : ℕ) (s : ℕ) → slice_get sorts k ≡ Some s → IsSort o s
-
--- Each sort that a declaration names is a sort.
-abbrev pub HasSorts : Subsorts → OpDecl → Type 0
-HasSorts o decl = IsSort o decl.result × AreSorts o decl.args
-
-abbrev pub HaveSorts : Subsorts → List OpDecl → Type 0
-HaveSorts o ops = (k : ℕ) (decl : OpDecl) → slice_get ops k ≡ Some decl → HasSorts o decl

@@ -1,4 +1,5 @@
 pub mod Signature
+pub mod Operators
 pub mod Sorting
 pub mod Meaning
 pub mod Scopes
@@ -6,3 +7,7 @@ pub mod Printing
 pub mod Least
 pub mod Sizes
 pub mod Nameless
+pub mod Values
+pub mod Parameters
+pub mod WellFormed
+pub mod Substitutions

@@ -1,7 +1,7 @@
 -- What a term of a text means: names are looked up, sorts are compared, and the first word at
 -- fault, in the order of the text, is told.
 use Rattle.std.specs.Prelude.{◌≡◌, ℕ, Bool, true, false, ◌&&◌, List, [], ◌∷◌, Option, None, Some, Result, Ok, Err, map, Contains, slice_get, cond}
-use Rattle.std.specs.Option.{option_map, option_and_then}
+use Rattle.std.specs.Option.{option_map, option_and_then, option_or}
 use Rattle.std.specs.Str.{bytes_eq}
 use Rattle.npa_term.specs.declared.term.Var.{Var as Variable_}
 use Rattle.npa_term.specs.declared.term.Term.{Term, Var, Name, App}
@@ -18,6 +18,7 @@ use Rattle.npa_sig.specs.declared.signature.OpDecl.{OpDecl}
 use Rattle.npa_sig.specs.Signature.{Signature, number_of}
 use Rattle.npa_sig.specs.Sorting.{is_sort, is_below}
 use Rattle.npa_text.specs.Texts.{text_of, number_of as number_in}
+use Rattle.npa_reading.specs.Reading.{at_word, mapped, in_front, all_read, Tells as TellsOver, Gives as GivesOver}
 
 -- the variable that a scope gives a word
 abbrev pub variable_of : List ℕ → List Scoped → Option Variable_
@@ -40,13 +41,9 @@ operator_at sig num = option_map (λ decl. Operator (record { num = num; result 
 abbrev pub operator_of : Signature → List ℕ → Option Head
 operator_of sig word = option_and_then (operator_at sig) (number_of sig word)
 
-abbrev pub first_of_two : Option Head → Option Head → Option Head
-first_of_two (Some h) o = Some h
-first_of_two None o = o
-
 -- a word stands for a variable of the scope, or else for an operator
 abbrev pub word_head : Signature → List Scoped → List ℕ → Option Head
-word_head sig scope word = first_of_two (option_map Variable (variable_of word scope)) (operator_of sig word)
+word_head sig scope word = option_or (option_map Variable (variable_of word scope)) (operator_of sig word)
 
 abbrev pub is_fresh_name : Kind → Bool
 is_fresh_name FreshName = true
@@ -92,10 +89,10 @@ fits sig (Operator op) sorts = fits_decl sig sorts (slice_get sig.ops op.num)
 
 -- the refusal of a word that stands for nothing, and of one whose arguments don't fit it
 abbrev pub unknown : List ℕ → Token → UseFail
-unknown bytes token = use_fail.Name (text_of bytes token) token.line token.col
+unknown bytes token = at_word use_fail.Name bytes token
 
 abbrev pub unfit : List ℕ → Token → UseFail
-unfit bytes token = use_fail.Sort (text_of bytes token) token.line token.col
+unfit bytes token = at_word use_fail.Sort bytes token
 
 -- the head with its arguments
 abbrev pub built : Head → List Term → Term
@@ -103,19 +100,10 @@ built (Variable v) args = Var v
 built (Fresh n) args = Name n
 built (Operator op) args = App op args
 
-abbrev pub with_args : Head → Result (List Term) UseFail → Result Term UseFail
-with_args h (Ok args) = Ok (built h args)
-with_args h (Err e) = Err e
-
-abbrev pub in_front : Result Term UseFail → Result (List Term) UseFail → Result (List Term) UseFail
-in_front (Ok t) (Ok ts) = Ok (t ∷ ts)
-in_front (Ok t) (Err e) = Err e
-in_front (Err e) ts = Err e
-
 -- a word is judged first, then its arguments in order
 abbrev pub judged : Signature → List ℕ → Token → Option Head → List (Option ℕ) → Result (List Term) UseFail → Result Term UseFail
 judged sig bytes token None sorts args = Err (unknown bytes token)
-judged sig bytes token (Some h) sorts args = cond (fits sig h sorts) (with_args h args) (Err (unfit bytes token))
+judged sig bytes token (Some h) sorts args = cond (fits sig h sorts) (mapped (built h) args) (Err (unfit bytes token))
 
 abbrev mutual
   -- the term that a term of a text stands for, or the first word at fault
@@ -132,21 +120,12 @@ abbrev mutual
 
 -- the same for a list of terms
 abbrev pub read_all : Signature → List Scoped → List ℕ → List Raw → Result (List Term) UseFail
-read_all sig scope bytes [] = Ok []
-read_all sig scope bytes (r ∷ rs) = in_front (read sig scope bytes r) (read_all sig scope bytes rs)
+read_all sig scope bytes raws = all_read (map (read sig scope bytes) raws)
 
 -- the fault is this one, unless memory was wanting
 abbrev pub Tells : UseFail → UseFail → Type 0
-Tells use_fail.NoMemory e = Unit {0}
-Tells (use_fail.Name name line col) e = e ≡ use_fail.Name name line col
-Tells (use_fail.Sort name line col) e = e ≡ use_fail.Sort name line col
-
-abbrev pub TellsFault : UseFail → Result Term UseFail → Type 0
-TellsFault use_fail.NoMemory r = Unit {0}
-TellsFault (use_fail.Name name line col) r = r ≡ Err (use_fail.Name name line col)
-TellsFault (use_fail.Sort name line col) r = r ≡ Err (use_fail.Sort name line col)
+Tells fault wanted = TellsOver use_fail.NoMemory fault wanted
 
 -- the answer is what the text means, unless memory was wanting
 abbrev pub Gives : Result Term UseFail → Result Term UseFail → Type 0
-Gives (Ok t) r = r ≡ Ok t
-Gives (Err e) r = TellsFault e r
+Gives answer wanted = GivesOver use_fail.NoMemory answer wanted

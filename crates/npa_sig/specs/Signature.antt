@@ -1,6 +1,7 @@
 -- Signatures: the sorts and the operators of a module (order-sorted signatures, Goguen and Meseguer
 -- 1992).
-use Rattle.std.specs.Prelude.{◌≡◌, ◌≤◌, ◌+◌, ◌==◌, ◌&&◌, not, ℕ, Bool, false, List, [], ◌∷◌, ◌++◌, Option, None, Some, is_some, map, length, cond, Result, Ok, Err}
+use Rattle.std.specs.Prelude.{◌≡◌, ◌+◌, ◌==◌, ◌&&◌, not, ℕ, Bool, false, List, [], ◌∷◌, ◌++◌, Option, None, Some, is_some, map, length, cond, Result, Ok, Err}
+use Rattle.std.specs.Option.{option_or}
 use Rattle.npa_sorts.specs.Subsorts.{Subsorts}
 use Rattle.npa_names.specs.Names.{place_of}
 use Rattle.npa_sig.specs.declared.signature.OpDecl.{OpDecl}
@@ -22,12 +23,6 @@ bare = record { sorts = record { declared = 0; pairs = [] }; sort_names = []; op
 abbrev pub names_of : List OpDecl → List (List ℕ)
 names_of ops = map (λ decl. decl.name) ops
 
--- a table of the operators' names, each of which has a number, and a name for each declared sort
-pub record IsIndexed (names : List (List ℕ)) (sig : Signature) : Type 0 where
-  pub same : names ≡ names_of sig.ops
-  pub few : length sig.ops ≤ 65535
-  pub named : length sig.sort_names ≡ sig.sorts.declared
-
 -- the number of the operator of this name
 abbrev pub number_of : Signature → List ℕ → Option ℕ
 number_of sig name = place_of name (names_of sig.ops)
@@ -47,14 +42,10 @@ op_fault k before decl =
     (cond (decl.«com» && not (is_pair decl.args)) (Some (Comm k))
     (cond (is_some (place_of decl.name before)) (Some (Twice k)) None))
 
-abbrev pub first_of : Option SigFail → Option SigFail → Option SigFail
-first_of (Some e) o = Some e
-first_of None o = o
-
 -- the fault of the first operator that can't be declared, behind operators of these names
 abbrev pub first_op_fault : List (List ℕ) → List OpDecl → Option SigFail
 first_op_fault before [] = None
-first_op_fault before (decl ∷ decls) = first_of (op_fault (length before) before decl) (first_op_fault (before ++ decl.name ∷ []) decls)
+first_op_fault before (decl ∷ decls) = option_or (op_fault (length before) before decl) (first_op_fault (before ++ decl.name ∷ []) decls)
 
 -- the operators make a signature where each can be declared; else the first fault is told
 abbrev pub Makes : Result Signature SigFail → Subsorts → List (List ℕ) → List OpDecl → Type 0

@@ -1,8 +1,10 @@
 -- The sorts of terms (order-sorted algebra, Goguen and Meseguer 1992).
-use Rattle.std.specs.Prelude.{ℕ, ◌+◌, Bool, true, false, ◌==◌, ◌&&◌, nat_lt, List, [], ◌∷◌, Option, None, Some, slice_get}
+use Rattle.std.specs.Prelude.{◌≡◌, ℕ, ◌+◌, Bool, true, false, ◌==◌, ◌&&◌, nat_lt, List, [], ◌∷◌, Option, None, Some, slice_get}
 use Rattle.npa_sorts.specs.Subsorts.{at_or_below}
 use Rattle.npa_term.specs.declared.term.Op.{Op}
 use Rattle.npa_term.specs.declared.term.Term.{Term, Var, Name, App', Row_of-Term, end_of-Term, more_of-Term}
+use Rattle.npa_term.specs.Parts.{least_sort}
+use Rattle.npa_term.specs.Variables.{IsGround}
 use Rattle.npa_sig.specs.declared.signature.OpDecl.{OpDecl}
 use Rattle.npa_sig.specs.Signature.{Signature}
 
@@ -13,12 +15,6 @@ is_sort sig s = nat_lt s (sig.sorts.declared + 2)
 -- whether a sort is at or below another
 abbrev pub is_below : Signature → ℕ → ℕ → Bool
 is_below sig s t = at_or_below sig.sorts s t
-
--- the least sort of a term: the variable's sort, that of fresh values, or the operator's result
-abbrev pub sort_of : Term → ℕ
-sort_of (Var v) = v.sort
-sort_of (Name n) = 1
-sort_of (App' op n args) = op.result
 
 abbrev pub same_bool : Bool → Bool → Bool
 same_bool true b = b
@@ -54,4 +50,9 @@ abbrev mutual
 
   pub sorts_of_row : {m : _} → Row_of-Term m → List ℕ
   sorts_of_row end_of-Term = []
-  sorts_of_row (more_of-Term t rest) = sort_of t ∷ sorts_of_row rest
+  sorts_of_row (more_of-Term t rest) = least_sort t ∷ sorts_of_row rest
+
+-- a ground term: well sorted and without variables
+pub record IsGroundTerm (sig : Signature) (t : Term) : Type 0 where
+  pub sorted : well_sorted sig t ≡ true
+  pub ground : IsGround t

@@ -1,7 +1,8 @@
 ghost use Rattle.std.specs.Prelude.{◌≡◌, ◌<◌, ◌≤◌, ◌+◌, ℕ, None, Some, length, slice_index_or, slice_get, IfOk, IfSome};
 ghost use Rattle.npa_sorts.specs.Subsorts.{at_or_below};
 ghost use Rattle.npa_term.specs.declared.term.Term.{Name};
-ghost use Rattle.npa_sig.specs.Least.{HaveSorts, IsBuiltOf, IsLeastIn, IsLeastOf, IsGroundFault};
+ghost use Rattle.npa_sig.specs.Least.{IsBuiltOf, IsLeastIn, IsLeastOf, IsGroundFault};
+ghost use Rattle.npa_sig.specs.Operators.{HaveSorts};
 ghost use Rattle.npa_sig.specs.Sizes.{summed, offered, better, settled, is_least_op, same_size, IsFirstEmpty, IsFirstPast, IsFirstOp, IsCheapest, AreSizes};
 
 use crate::fault::{GroundFault, LeastFail};
@@ -26,10 +27,10 @@ impl Sig {
     /// order of terms; that of `Fresh` is the fresh name 0. `None` exactly where the sort has no
     /// ground term, and `Past` exactly where the least one has more than 64 symbols.
     pub fn least(&self, alloc: Global, sort: u16) -> Result<Option<Term>, LeastFail>
-        requires sorts { HaveSorts self.now.sorts self.now.ops }
         ensures answer { IsLeastOf self.now sort result }
         ensures fresh { sort ≡ FRESH → IfOk result (λ found. found ≡ Some (Name 0)) }
     {
+        self.laws();
         let sizes = sizes(alloc, self.sorts(), self.ops().as_slice())?;
         if let Some(size) = size_at(&sizes, sort) {
             if size > MAX_GROUND {
@@ -43,9 +44,9 @@ impl Sig {
     /// where all have some, the first whose least one has more than 64 symbols, with its number.
     /// The sizes of all sorts are computed at once.
     pub fn ground_fault(&self, alloc: Global) -> Result<Option<GroundFault>, NoMemory>
-        requires sorts { HaveSorts self.now.sorts self.now.ops }
         ensures fault { IfOk result (λ fault. IsGroundFault self.now fault) }
     {
+        self.laws();
         let sizes = sizes(alloc, self.sorts(), self.ops().as_slice())?;
         if let Some(sort) = first_empty(self.sorts(), &sizes) {
             return Ok(Some(GroundFault::Inhabited(sort)));

@@ -11,6 +11,7 @@ mod printing;
 mod protocol;
 mod scope;
 mod signature;
+mod sort_numbers;
 mod sorting;
 
 pub use fault::{GroundFault, LeastFail, SigFail, UseFail};
@@ -21,16 +22,4 @@ pub use printing::print_term;
 pub use protocol::{Equation, Equations, Event, Events, Protocol, Strand, Strands, copy_equations};
 pub use scope::Scope;
 pub use signature::{OpDecl, OpDecls, Sig};
-
-#[cfg(test)]
-mod copying_tests;
-#[cfg(test)]
-mod ground_tests;
-#[cfg(test)]
-mod samples;
-#[cfg(test)]
-mod term_tests;
-#[cfg(test)]
-mod tests;
-#[cfg(test)]
-mod text_tests;
+pub use sort_numbers::{all_name_sorts, names_sorts};

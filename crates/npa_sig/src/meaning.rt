@@ -1,6 +1,7 @@
 ghost use Rattle.std.specs.Prelude.{◌≡◌, map, [], None, Some, true, IfOk, All, Contains};
 ghost use Rattle.npa_term.specs.Variables.{IsGround, variables};
-ghost use Rattle.npa_sig.specs.Sorting.{sort_of, well_sorted};
+ghost use Rattle.npa_sig.specs.Sorting.{well_sorted};
+ghost use Rattle.npa_term.specs.Parts.{least_sort};
 ghost use Rattle.npa_sig.specs.Meaning.{read, Gives, IsSorted, scope_variables, head_of, word_head, is_fresh_name, operator_of, sort_at, fits, all_fit, one_fits, unknown, unfit, Tells};
 
 use crate::fault::UseFail;
@@ -43,7 +44,7 @@ pub fn resolve(
     ensures ground { scope.now ≡ [] → IfOk result IsGround }
     ensures sorted { IsSorted sig.now scope.now → IfOk result (λ t. well_sorted sig.now t ≡ true) }
     ensures own { IfOk result (λ t. All (Contains (scope_variables scope.now)) (variables t)) }
-    ensures told { IfOk result (λ t. sort_at sig.now scope.now bytes.now raw.now ≡ Some (sort_of t)) }
+    ensures told { IfOk result (λ t. sort_at sig.now scope.now bytes.now raw.now ≡ Some (least_sort t)) }
 {
     read(alloc, sig, scope, bytes, raw)
 }

@@ -1,6 +1,5 @@
 ghost use Rattle.std.specs.Prelude.{◌≡◌, ◌<◌, ◌≤◌, ◌↔◌, ◌||◌, ℕ, false, replicate, length, slice_index_or, IfOk, IsTrue, IsFalse};
 ghost use Rattle.npa_sorts.specs.Subsorts.{at_or_below};
-ghost use Rattle.npa_sig.specs.Least.{HaveSorts};
 ghost use Rattle.npa_sig.specs.Nameless.{CarriesNames, AreCarriers, any_marked, hands_names};
 ghost use Rattle.npa_sig.specs.Sizes.{IsFirstOp};
 
@@ -13,7 +12,6 @@ impl Sig {
     /// it is `Fresh`, or where an operator whose result sort is at or below it has an argument
     /// sort that carries names.
     pub fn nameless(&self, alloc: Global, sort: u16) -> Result<bool, NoMemory>
-        requires sorts { HaveSorts self.now.sorts self.now.ops }
         ensures nameless { IfOk result (λ r. IsTrue r ↔ (CarriesNames self.now sort → ⊥)) }
         ensures carries { IfOk result (λ r. IsFalse r ↔ CarriesNames self.now sort) }
     {
@@ -23,9 +21,9 @@ impl Sig {
 
     /// A mark for each sort, by its number, at those that carry names.
     pub fn carriers(&self, alloc: Global) -> Result<Vec<bool>, NoMemory>
-        requires sorts { HaveSorts self.now.sorts self.now.ops }
         ensures marks { IfOk result (λ marks. AreCarriers self.now marks.items) }
     {
+        self.laws();
         let sorts = self.sorts();
         sorts.laws();
         let _pairs = sorts.pairs();

@@ -1,6 +1,7 @@
 ghost use Rattle.std.specs.Prelude.{◌≡◌, ◌≢◌, ◌<◌, ◌≤◌, ◌+◌, false, map, slice_get, length, cond, Some, None, IfOk};
 ghost use Rattle.std.specs.Option.{option_copied};
 ghost use Rattle.npa_sorts.specs.Subsorts.{IsSort, at_or_below};
+ghost use Rattle.npa_sig.specs.Operators.{HasSorts, HaveSorts, IsWellFormedSignature};
 ghost use Rattle.npa_sig.specs.Signature.{Makes, Declares, bare, is_pair, op_fault, number_of, with_sort, with_subsort};
 ghost use Rattle.npa_sig.specs.Printing.{sort_text};
 
@@ -26,7 +27,8 @@ pub struct OpDecl {
 /// Declarations of operators, in the order of the module.
 pub type OpDecls = List<OpDecl>;
 
-/// A signature: sorts with their order and their names, and operators, no two of one name. An
+/// A signature: sorts with their order and their names, and operators, no two of one name. They name
+/// sorts alone, none has the result `Fresh`, and a commutative one takes two arguments of one sort. An
 /// operator is known by its number, its place in the order of the module; a declared sort by its
 /// place, counted from 2. An operator's name is found in constant time.
 #[derive(Debug, Drop)]
@@ -38,7 +40,8 @@ pub struct Sig {
 }
 
 impl Model for Sig {
-    ghost use Rattle.npa_sig.specs.Signature.{Signature, IsIndexed};
+    ghost use Rattle.npa_sig.specs.Signature.{Signature};
+    ghost use Rattle.npa_sig.specs.Operators.{IsIndexed};
 
     ghost Value = { Signature };
 
@@ -55,6 +58,7 @@ impl Sig {
     pub fn new(alloc: Global, sorts: Sorts, sort_names: Names, ops: OpDecls) -> Result<Sig, SigFail>
         requires named { length sort_names ≡ sorts.declared }
         requires few { length ops < 65535 }
+        requires sorts { HaveSorts sorts ops }
         ensures made { Makes result sorts sort_names ops }
     {
         let mut names = NameTable::new(alloc);
@@ -73,6 +77,7 @@ impl Sig {
     }
 
     /// The signature of `Msg` and `Fresh`, without operators.
+    #[tactic(auto, using(crate::proofs::Operators::formed_bare))]
     pub fn bare(alloc: Global) -> Result<Sig, NoMemory>
         ensures { IfOk result (λ sig. sig ≡ bare) }
     {
@@ -97,7 +102,7 @@ impl Sig {
     }
 
     /// The signature with one more sort, the last, below `Msg` alone.
-    pub fn declare_sort(self, alloc: Global, name: Name) -> Result<Sig, SigFail>
+    pub fn declare_sort(self, alloc: Global, name: Name) -> Result<Sig, NoMemory>
         requires few { self.sorts.declared < 65533 }
         ensures { IfOk result (λ sig. sig ≡ with_sort self name) }
     {
@@ -119,7 +124,8 @@ impl Sig {
 
     /// The signature in which one sort more is below another. Neither is `Fresh`, and the upper
     /// one isn't at or below the lower one.
-    pub fn put_below(self, alloc: Global, lower: u16, upper: u16) -> Result<Sig, SigFail>
+    #[tactic(auto, using(crate::proofs::Operators::formed_subsort))]
+    pub fn put_below(self, alloc: Global, lower: u16, upper: u16) -> Result<Sig, NoMemory>
         requires lower { IsSort self.sorts lower }
         requires upper { IsSort self.sorts upper }
         requires apart { (lower ≢ FRESH) × (upper ≢ FRESH) }
@@ -144,6 +150,7 @@ impl Sig {
     /// The signature with one more operator, the last. It is refused where `new` refuses it.
     pub fn declare(self, alloc: Global, decl: OpDecl) -> Result<Sig, SigFail>
         requires few { length self.ops < 65535 }
+        requires sorts { HasSorts self.sorts decl }
         ensures { Declares result self decl }
     {
         let Sig {
@@ -202,9 +209,12 @@ impl Sig {
         &self.ops
     }
 
-    // Does nothing: an operator's number has 16 bits.
-    pub(crate) fn laws(&self)
+    /// Does nothing: an operator's number has 16 bits, operators name sorts alone, none has the result
+    /// `Fresh`, and a commutative one takes two arguments of one sort.
+    pub fn laws(&self)
         ensures few { length self.now.ops ≤ 65535 }
+        ensures sorts { HaveSorts self.now.sorts self.now.ops }
+        ensures formed { IsWellFormedSignature self.now }
     {
         let _ops = &self.ops;
     }

@@ -1,6 +1,6 @@
-ghost use Rattle.std.specs.Prelude.{◌≡◌, ◌↔◌, IsTrue, map, slice_get};
-ghost use Rattle.npa_sig.specs.Least.{AreSorts, HasSorts, HaveSorts};
-ghost use Rattle.npa_sig.specs.Sorting.{is_sort, is_below, sort_of, well_sorted, is_declared, all_below, agrees};
+ghost use Rattle.std.specs.Prelude.{◌≡◌, map, slice_get};
+ghost use Rattle.npa_sig.specs.Sorting.{is_sort, is_below, well_sorted, is_declared, all_below, agrees};
+ghost use Rattle.npa_term.specs.Parts.{least_sort};
 
 use crate::signature::{OpDecl, Sig};
 use npa_sorts::FRESH;
@@ -14,37 +14,6 @@ impl Sig {
         (sort as u32) < self.sorts().declared() as u32 + 2
     }
 
-    /// Whether each sort number in the operators stands for a sort.
-    pub fn has_sorts(&self) -> bool
-        ensures { IsTrue result ↔ HaveSorts self.now.sorts self.now.ops }
-    {
-        for decl in self.ops().as_slice() {
-            if !self.declares_sorts(decl) {
-                return false;
-            }
-        }
-        true
-    }
-
-    // Whether an operator's result sort and argument sorts are sorts.
-    fn declares_sorts(&self, decl: &OpDecl) -> bool
-        ensures { IsTrue result ↔ HasSorts self.now.sorts decl.now }
-    {
-        self.is_sort(decl.result) && self.are_sorts(decl.args.as_slice())
-    }
-
-    // Whether these numbers stand for sorts.
-    fn are_sorts(&self, sorts: &[u16]) -> bool
-        ensures { IsTrue result ↔ AreSorts self.now.sorts sorts.now }
-    {
-        for sort in sorts {
-            if !self.is_sort(*sort) {
-                return false;
-            }
-        }
-        true
-    }
-
     /// Whether a sort is at or below another.
     pub fn is_below(&self, lower: u16, upper: u16) -> bool
         ensures { result ≡ is_below self.now lower upper }
@@ -54,7 +23,7 @@ impl Sig {
 
     /// The least sort of a term. It takes no memory.
     pub fn sort_of(&self, t: &Term) -> u16
-        ensures { result ≡ sort_of t.now }
+        ensures { result ≡ least_sort t.now }
     {
         match t {
             Term::Var(v) => v.sort,
@@ -88,7 +57,7 @@ impl Sig {
 
     // Whether the operator is declared so, for these arguments.
     fn is_declared(&self, op: Op, args: &[Term]) -> bool
-        ensures { result ≡ is_declared self.now op (map sort_of args.now) (slice_get self.now.ops op.num) }
+        ensures { result ≡ is_declared self.now op (map least_sort args.now) (slice_get self.now.ops op.num) }
     {
         match self.ops().get(op.num as usize) {
             Some(decl) => agrees(op, decl) && self.all_below(args, decl.args.as_slice()),
@@ -99,7 +68,7 @@ impl Sig {
     // Whether there are as many arguments as sorts, each of a least sort at or below its own.
     #[tactic(auto, using(crate::proofs::Declared::all_below_step, crate::proofs::Declared::all_below_ends, crate::proofs::Declared::all_below_apart))]
     fn all_below(&self, args: &[Term], sorts: &[u16]) -> bool
-        ensures { result ≡ all_below self.now (map sort_of args.now) sorts.now }
+        ensures { result ≡ all_below self.now (map least_sort args.now) sorts.now }
     {
         if args.len() != sorts.len() {
             return false;

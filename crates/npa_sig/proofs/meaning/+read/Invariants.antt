@@ -1,6 +1,6 @@
 use Rattle.std.proofs.Common.{◌≡◌, drop}
 use Rattle.npa_sig.specs.Meaning.{read_all}
-use Rattle.npa_sig.proofs.Meanings.{with_front}
+use Rattle.npa_reading.specs.Reading.{with_front}
 use Rattle.npa_sig.proofs.meaning.+read.Given as goal
 
 abbrev pub invariant-loop-arg : goal.invariant-loop-arg

@@ -10,7 +10,7 @@ use Rattle.npa_sig.proofs.signature.Sig.carriers.Goals as goal
 pub loop-num-init : goal.loop-num-init
 loop-num-init c =
     let sig = c.args.self.now in
-    let apart : (s t : ℕ) → IsBelow sig.sorts s t → (s ≢ 1) × (t ≢ 1) = subst (λ o. (s t : ℕ) → IsBelow o s t → (s ≢ 1) × (t ≢ 1)) c.sorts-sorts.ensures c.laws.ensures.fresh in
+    let apart : (s t : ℕ) → IsBelow sig.sorts s t → (s ≢ 1) × (t ≢ 1) = subst (λ o. (s t : ℕ) → IsBelow o s t → (s ≢ 1) × (t ≢ 1)) c.sorts-sorts.ensures c.laws-2.ensures.fresh in
     let size : c.declared.result + 2 ≡ sig.sorts.declared + 2 = ap (λ n. n + 2) (c.declared.ensures.value ∙ ap (λ o. o.declared) c.sorts-sorts.ensures) in
     marked_fresh sig c.in_ok-marks.marks.items _ (c.declared.result + 2) c.in_ok-marks.ensures size refl apart
 
@@ -43,11 +43,11 @@ loop-num-smaller c =
     subst (λ o. (s : ℕ) → s < length marks.items → get_or new s false ≡ (get_or marks.items s false || at_or_below o decl.result s)) c.sorts-sorts.ensures
     (subst (λ ms. (s : ℕ) → s < length ms → get_or new s false ≡ (get_or ms s false || at_or_below c.sorts-sorts.result.now decl.result s)) c.deref_mut.ensures.value c.mark_above.ensures) in
     let written = with_items_is marks new (c.mark_above.auto.marks ∙ c.deref_mut.ensures.len) in
-    subst (λ ms. unmarked ms < unmarked marks.items) (sym written) (fewer_unmarked sig marks.items c.in-Some.num decl c.op.ensures found new long is c.loop-num.invariant c.requires.sorts)
+    subst (λ ms. unmarked ms < unmarked marks.items) (sym written) (fewer_unmarked sig marks.items c.in-Some.num decl c.op.ensures found new long is c.loop-num.invariant c.laws.ensures.sorts)
 
 pub returns : goal.returns
 returns c =
     record {
-      marks = marks_exact c.args.self.now c.loop-num.marks.items c.loop-num.invariant c.requires.sorts (subst AreSorts c.sorts-sorts.ensures c.pairs-pairs.ensures.sorts)
+      marks = marks_exact c.args.self.now c.loop-num.marks.items c.loop-num.invariant c.laws.ensures.sorts (subst AreSorts c.sorts-sorts.ensures c.pairs-pairs.ensures.sorts)
           (subst (λ ms. IsFirstOp (hands_names ms) c.args.self.now.ops None) c.deref.ensures.value c.in_default.ensures);
     }

@@ -10,7 +10,7 @@ returns-in-Some c =
     let known : AreSizes sig.sorts sig.ops sizes = subst (λ ops. AreSizes sig.sorts ops sizes) (c.as_slice.ensures ∙ c.ops.ensures) (subst (λ o. AreSizes o c.as_slice.result.now sizes) c.sorts.ensures c.in_ok-sizes.ensures) in
     let first : IsFirstEmpty sig.sorts sizes (Some c.in-Some.sort) =
     subst (λ xs. IsFirstEmpty sig.sorts xs (Some c.in-Some.sort)) c.deref.ensures.value (subst (λ o. IsFirstEmpty o c.deref.result.now (Some c.in-Some.sort)) c.sorts-2.ensures c.in-Some.ensures) in
-    record { fault = fault_inhabited sig sizes known c.requires.sorts c.in-Some.sort first }
+    record { fault = fault_inhabited sig sizes known c.laws.ensures.sorts c.in-Some.sort first }
 
 pub returns-in-Some-first_past : goal.returns-in-Some-first_past
 returns-in-Some-first_past c =
@@ -22,7 +22,7 @@ returns-in-Some-first_past c =
     let first : IsFirstPast sig.sorts sizes (Some (c.in-Some-first_past.sort, c.in-Some-first_past.size)) =
     subst (λ xs. IsFirstPast sig.sorts xs (Some (c.in-Some-first_past.sort, c.in-Some-first_past.size))) c.deref-2.ensures.value
     (subst (λ o. IsFirstPast o c.deref-2.result.now (Some (c.in-Some-first_past.sort, c.in-Some-first_past.size))) c.sorts-3.ensures c.in-Some-first_past.ensures) in
-    record { fault = fault_ground sig sizes known c.requires.sorts c.in-Some-first_past.sort c.in-Some-first_past.size none first }
+    record { fault = fault_ground sig sizes known c.laws.ensures.sorts c.in-Some-first_past.sort c.in-Some-first_past.size none first }
 
 pub returns : goal.returns
 returns c =
@@ -33,4 +33,4 @@ returns c =
     subst (λ xs. IsFirstEmpty sig.sorts xs None) c.deref.ensures.value (subst (λ o. IsFirstEmpty o c.deref.result.now None) c.sorts-2.ensures c.in_default.ensures) in
     let few : IsFirstPast sig.sorts sizes None =
     subst (λ xs. IsFirstPast sig.sorts xs None) c.deref-2.ensures.value (subst (λ o. IsFirstPast o c.deref-2.result.now None) c.sorts-3.ensures c.in-None.ensures) in
-    record { fault = fault_none sig sizes known c.requires.sorts none few }
+    record { fault = fault_none sig sizes known c.laws.ensures.sorts none few }

@@ -12,7 +12,7 @@ returns-then-size-gt-MAX_GROUND c =
     let sizes = c.in_ok-sizes.sizes.items in
     let known : AreSizes sig.sorts sig.ops sizes = subst (λ ops. AreSizes sig.sorts ops sizes) (c.as_slice.ensures ∙ c.ops.ensures) (subst (λ o. AreSizes o c.as_slice.result.now sizes) c.sorts.ensures c.in_ok-sizes.ensures) in
     let some : get_or sizes c.args.sort None ≡ Some c.in-Some.size = sym (c.in-Some.ensures ∙ ap (λ xs. get_or xs c.args.sort None) c.deref.ensures.value) in
-    record { answer = answer_past sig sizes known c.requires.sorts c.args.sort c.in-Some.size some c.if-size-gt-MAX_GROUND.true; fresh = λ _. tt }
+    record { answer = answer_past sig sizes known c.laws.ensures.sorts c.args.sort c.in-Some.size some c.if-size-gt-MAX_GROUND.true; fresh = λ _. tt }
 
 pub returns : goal.returns
 returns c =
@@ -25,4 +25,4 @@ returns c =
       | in_default w ↦
           subst (λ x. IfSome x (λ n. n ≤ 64)) (w.in_default.ensures ∙ ap (λ xs. get_or xs c.args.sort None) c.deref.ensures.value) tt
     ] in
-    record { answer = answer_least sig sizes known c.requires.sorts c.args.sort small c.in_ok-least_term.field-0 c.in_ok-least_term.ensures; fresh = least_if_fresh sig.sorts sig.ops c.args.sort c.in_ok-least_term.field-0 c.in_ok-least_term.ensures }
+    record { answer = answer_least sig sizes known c.laws.ensures.sorts c.args.sort small c.in_ok-least_term.field-0 c.in_ok-least_term.ensures; fresh = least_if_fresh sig.sorts sig.ops c.args.sort c.in_ok-least_term.field-0 c.in_ok-least_term.ensures }
