@@ -1,17 +1,19 @@
 -- What the ends of all branches are.
-use Rattle.std.proofs.lemmas.List.{length-take, length_push, take_all}
-use Rattle.std.proofs.Common.{◌≡◌, ℕ, zero, suc, ◌<◌, ◌≤◌, ◌+◌, min, length, take, Option, Some, None, IsSome, IfSome, List, ◌∷◌, ◌++◌, refl, sym, ◌∙◌, ap, subst, inl, inr, arith, []}
-use Rattle.std.specs.Prelude.{Contains, All, MatchOption, unwrap_or}
+use Rattle.std.proofs.lemmas.List.{append-nil, length-append}
+use Rattle.std.proofs.Common.{◌≡◌, ℕ, zero, suc, ◌+◌, Bool, false, length, Option, Some, None, IsSome, IfSome, Result, Ok, Err, IfOk, IsTrue, List, ◌∷◌, ◌++◌, refl, sym, ◌∙◌, ap, subst, inl, inr, arith, []}
+use Rattle.std.specs.Prelude.{Contains, All, unwrap_or}
 use Rattle.std.specs.Option.{is_some}
 use Rattle.npa_sorts.specs.Subsorts.{Subsorts, IsAtOrBelow}
 use Rattle.npa_term.specs.declared.term.Var.{Var as Variable}
 use Rattle.npa_term.specs.declared.term.Term.{Term, Var}
 use Rattle.npa_term.specs.Bound.{value_of}
+use Rattle.npa_term.specs.Parts.{image, least_sort}
 use Rattle.npa_term.specs.Same.{Same, itself}
+use Rattle.npa_term.proofs.Parts.{image_of}
 use Rattle.npa_match.specs.Branches.{branches, first_of}
-use Rattle.npa_match.specs.Matching.{image, least_sort, first_variables, Matches, IsMatcher, AgreeOn, AreDifferent, HasMore, IsSecondPart}
+use Rattle.npa_match.specs.Matching.{first_variables, Matches, IsMatcher, AgreeOn, AreDifferent, HasMatch, HasMatcher, HasMore, IsFollowed, IsSecondPart}
 use Rattle.npa_match.proofs.Exactness.{Follows, IsEnd, Some_of, Each, Apart, AllApart, each_map}
-use Rattle.npa_match.proofs.Matchers.{Allowed, Solves, exact_pairs, image_of}
+use Rattle.npa_match.proofs.Exact.{Allowed, Solves, exact_pairs}
 
 follows_itself : (r : List (Variable × Term)) → Follows r r
 follows_itself r v t e = subst (Same (image r v)) (image_of r v t e) (itself (image r v))
@@ -96,18 +98,14 @@ pairs_different o ps (r ∷ rs) each apart (suc i) (suc j) d less small =
 pub different_branches : (o : Subsorts) (ps : List (Term × Term)) → AreDifferent (first_variables ps) (branches o ps)
 different_branches o ps = pairs_different o ps (branches o ps) (each_branch o ps) ((exact_pairs o ps).apart [] tt)
 
--- what is answered where the ends are few, and where they are many
-taken_few : {X : Type 0} (xs ys : List X) (n : ℕ) → xs ≡ take (n + 1) ys → length xs ≤ n → xs ≡ ys
-taken_few xs ys n e few =
-    let size : length xs ≡ min (n + 1) (length ys) = ap length e ∙ length-take (n + 1) ys in
-    e ∙ take_all (n + 1) ys (omega (arith, size, few))
+-- what is answered where no end is left, and where there is one too many
+pub all_found : (o : Subsorts) (ps : List (Term × Term)) (found left : List (List (Variable × Term))) → found ++ left ≡ branches o ps → left ≡ [] → found ≡ branches o ps
+all_found o ps found left all none = sym (append-nil found) ∙ ap (λ xs. found ++ xs) (sym none) ∙ all
 
-pub answered : (o : Subsorts) (ps : List (Term × Term)) (found : List (List (Variable × Term))) (n : ℕ) → found ≡ take (n + 1) (branches o ps) → length found ≤ n → found ≡ branches o ps
-answered o ps found n e few = taken_few found (branches o ps) n e few
-
-pub more : (o : Subsorts) (ps : List (Term × Term)) (found : List (List (Variable × Term))) (n : ℕ) → found ≡ take (n + 1) (branches o ps) → n < length found → HasMore n o ps
-more o ps found n e many =
-    let size : length found ≡ min (n + 1) (length (branches o ps)) = ap length e ∙ length-take (n + 1) (branches o ps) in
+pub more : (o : Subsorts) (ps : List (Term × Term)) (found left rest : List (List (Variable × Term))) (s : List (Variable × Term)) (n : ℕ) →
+    found ++ left ≡ branches o ps → left ≡ s ∷ rest → length found ≡ n → HasMore n o ps
+more o ps found left rest s n all next many =
+    let size : length (branches o ps) ≡ length found + length (s ∷ rest) = ap length (sym all ∙ ap (λ xs. found ++ xs) next) ∙ length-append found (s ∷ rest) in
     (branches o ps, omega (arith, size, many), all_branches o ps, different_branches o ps)
 
 -- the first end
@@ -123,15 +121,22 @@ none_answered o ps none u m = no_first (branches o ps) none (matching_branch o p
   no_first [] none some = some
   no_first (r ∷ rs) none some = let no : ⊥ = cc in no
 
--- the one that is taken off is the first
-pub first_popped : (r : Option (List (Variable × Term))) (found after all : List (List (Variable × Term))) →
-    MatchOption r ((found ≡ []) × (after ≡ [])) (λ last. found ≡ after ++ last ∷ []) → found ≡ take 1 all → r ≡ first_of all
-first_popped None found after [] m e = refl
-first_popped None found after (s ∷ all) m e = let no : ⊥ = cc in absurd no
-first_popped (Some last) found [] [] m e = let no : ⊥ = cc in absurd no
-first_popped (Some last) found (x ∷ after) [] m e = let no : ⊥ = cc in absurd no
-first_popped (Some last) found [] (s ∷ all) m e = let one : last ∷ [] ≡ s ∷ [] = sym m ∙ e in ap first_of one
-first_popped (Some last) found (x ∷ after) (s ∷ all) m e =
-    let one : x ∷ after ++ last ∷ [] ≡ s ∷ [] = sym m ∙ e in
-    let size : length (x ∷ after ++ last ∷ []) ≡ 1 = ap length one in
-    absurd (let no : ⊥ = omega (arith, size, length_push (x ∷ after) last) in no)
+-- what a search says of its next end
+module _ (o : Subsorts) (ps : List (Term × Term)) (all rest : List (List (Variable × Term))) (whole : all ≡ branches o ps) where
+  pub next_matcher : {E : Type 0} (r : Result (Option (List (Variable × Term))) E) → IfOk r (λ found. IfSome found (λ s. all ≡ s ∷ rest)) → IfOk r (λ found. IfSome found (IsMatcher o ps))
+  next_matcher (Ok None) found = tt
+  next_matcher (Ok (Some s)) found = (subst (λ ss. Each (IsMatcher o ps) ss) (sym whole ∙ found) (each_branch o ps)).0
+  next_matcher (Err e) found = tt
+
+  pub next_none : {E : Type 0} (r : Result (Option (List (Variable × Term))) E) → IfOk r (λ found. found ≡ None → all ≡ []) →
+      IfOk r (λ found. found ≡ None → (u : List (Variable × Term)) → Matches o ps u → ⊥)
+  next_none (Ok x) none = λ e u m. none_answered o ps (ap first_of (sym whole ∙ none e)) u m
+  next_none (Err e) none = tt
+
+  pub skip_matched : {E : Type 0} (r : Result Bool E) → IfOk r (λ b. IsTrue b → IsFollowed all rest) → IfOk r (λ b. IsTrue b → HasMatcher o ps)
+  skip_matched (Ok b) found = λ is. let s = found is in record { by_ = s.0; is = (subst (λ ss. Each (IsMatcher o ps) ss) (sym whole ∙ s.1) (each_branch o ps)).0 }
+  skip_matched (Err e) found = tt
+
+  pub skip_none : {E : Type 0} (r : Result Bool E) → IfOk r (λ b. b ≡ false → all ≡ []) → IfOk r (λ b. b ≡ false → HasMatch o ps → ⊥)
+  skip_none (Ok b) none = λ is m. none_answered o ps (ap first_of (sym whole ∙ none is)) m.by_ m.matches
+  skip_none (Err e) none = tt

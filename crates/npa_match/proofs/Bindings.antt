@@ -5,7 +5,7 @@ use Rattle.npa_term.specs.declared.term.Var.{Var as Variable}
 use Rattle.npa_term.specs.declared.term.Term.{Term}
 use Rattle.npa_term.specs.Bound.{same_var, value_of, BindsOnce}
 use Rattle.npa_term.proofs.Bindings.{not_bound, same_var-comm}
-use Rattle.npa_match.specs.Search.{bound_pairs}
+use Rattle.npa_match.specs.Matching.{bound_pairs}
 
 free_at : (bs : List (Variable × Bor Term)) (v : Variable) (i : ℕ) (d : Variable × Bor Term) → value_of (bound_pairs bs) v ≡ None → i < length bs →
     same_var (get_or bs i d).0 v ≡ false

@@ -4,10 +4,11 @@ use Rattle.std.specs.Prelude.{◌⊎◌, ⊤, All}
 use Rattle.npa_sorts.specs.Subsorts.{Subsorts}
 use Rattle.npa_term.specs.declared.term.Var.{Var as Variable}
 use Rattle.npa_term.specs.declared.term.Term.{Term}
+use Rattle.npa_term.specs.Parts.{image}
 use Rattle.npa_term.specs.Same.{through}
 use Rattle.npa_term.proofs.SameLaws.{same_sym}
 use Rattle.npa_match.specs.Branches.{branches}
-use Rattle.npa_match.specs.Matching.{image, first_variables, IsMatcher, AgreeOn, AreDifferent, HasMore}
+use Rattle.npa_match.specs.Matching.{first_variables, IsMatcher, AgreeOn, AreDifferent, HasMore}
 use Rattle.npa_match.proofs.Exactness.{Follows, Some_of, Each}
 use Rattle.npa_match.proofs.Answered.{each_branch, matching_branch, followed}
 

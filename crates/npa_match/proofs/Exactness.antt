@@ -6,8 +6,8 @@ use Rattle.npa_sorts.specs.Subsorts.{Subsorts, IsAtOrBelow}
 use Rattle.npa_term.specs.declared.term.Var.{Var as Variable}
 use Rattle.npa_term.specs.declared.term.Term.{Term}
 use Rattle.npa_term.specs.Bound.{value_of, BindsOnce}
+use Rattle.npa_term.specs.Parts.{image, least_sort}
 use Rattle.npa_term.specs.Same.{Same}
-use Rattle.npa_match.specs.Matching.{image, least_sort}
 
 -- a substitution that has, modulo commutativity, the terms that another binds
 abbrev pub Follows : List (Variable × Term) → List (Variable × Term) → Type 0

@@ -9,16 +9,17 @@ use Rattle.npa_sorts.specs.Subsorts.{Subsorts}
 use Rattle.npa_term.specs.declared.term.Op.{Op}
 use Rattle.npa_term.specs.declared.term.Var.{Var as Variable}
 use Rattle.npa_term.specs.declared.term.Term.{Term, Name, App}
+use Rattle.npa_term.specs.Computed.{is_same, same_op, turned}
 use Rattle.npa_term.specs.Symbols.{symbol_count, all_count}
 use Rattle.npa_term.proofs.Rows.{symbol_count_at}
+use Rattle.npa_term.proofs.Equality.{op_equal, op_itself}
+use Rattle.npa_term.proofs.Induction.{term_cases}
 use Rattle.npa_match.specs.declared.search.Branch.{Branch}
 use Rattle.npa_match.specs.declared.search.Outcome.{Outcome}
 use Rattle.npa_match.specs.declared.search.Outcome.TheVariants.{Fails, Binds, Forks}
 use Rattle.npa_match.specs.Branches.{after_term, after_pairs, forks}
-use Rattle.npa_match.specs.Computed.{is_same, same_op, turned}
-use Rattle.npa_match.specs.Search.{goal_pairs, pairs_of, bound_of, ends_of, outcome_ends, pair_symbols, work, outcome_work, IsFork}
-use Rattle.npa_match.proofs.Lists.{after_all, after_arguments, after_apps, after_zip, after_uneven}
-use Rattle.npa_match.proofs.Equality.{op_equal, op_itself, term_cases}
+use Rattle.npa_match.specs.Search.{after_all, goal_pairs, pairs_of, bound_of, ends_of, outcome_ends, pair_symbols, work, outcome_work, IsFork}
+use Rattle.npa_match.proofs.Lists.{after_arguments, after_apps, after_zip, after_uneven}
 
 -- the pair that is popped is the one at the front
 popped_pairs : (gs hs : List (Bor Term × Bor Term)) (t u : Bor Term) → gs ≡ hs ++ (t, u) ∷ [] → goal_pairs gs ≡ (t.now, u.now) ∷ goal_pairs hs
@@ -65,7 +66,7 @@ other_term o s t u f ts d other =
     ∙ term_cases (λ v. ((us : List Term) → v ≡ App f us → ⊥) → after_term o (App f ts) v s ≡ []) (λ v no_app. refl) (λ n no_app. refl)
     (λ g us no_app. other_operator o s f g ts us (λ e. no_app us (ap (λ h. App h us) (sym e)))) u other
 
-matched : (o : Subsorts) (s : List (Variable × Term)) (t u : Term) (f : Op) (ts us : List Term) → t ≡ App f ts → u ≡ App f us →
+pub matched : (o : Subsorts) (s : List (Variable × Term)) (t u : Term) (f : Op) (ts us : List Term) → t ≡ App f ts → u ≡ App f us →
     after_term o t u s ≡ after_arguments o f ts us s
 matched o s t u f ts us d e =
     ap (λ v. after_term o v u s) d ∙ ap (λ v. after_term o (App f ts) v s) e ∙ after_apps o f f ts us s ∙ ap (λ b. cond b (after_arguments o f ts us s) []) (op_itself f)

@@ -1,10 +1,12 @@
 pub mod Answered
 pub mod Bindings
 pub mod Counted
-pub mod Equality
+pub mod Exact
 pub mod Exactness
+pub mod Extending
 pub mod Going
 pub mod Lists
-pub mod Matchers
+pub mod Once
 pub mod Parts
+pub mod Shapes
 pub mod Waiting

@@ -1,12 +1,12 @@
-use Rattle.std.specs.Prelude.{Bool, false, not, cond, nat_eq, ◌&&◌, Option, Some, None, List, ◌∷◌, ◌++◌, flat_map, []}
+use Rattle.std.specs.Prelude.{Bool, false, not, cond, nat_eq, ◌&&◌, Option, Some, None, List, ◌∷◌, ◌++◌, flat_map, length, ◌≤◌, []}
 use Rattle.npa_sorts.specs.Subsorts.{Subsorts, at_or_below}
 use Rattle.npa_term.specs.declared.term.Op.{Op}
 use Rattle.npa_term.specs.declared.term.Var.{Var as Variable}
 use Rattle.npa_term.specs.declared.term.Term.{Term, Row_of-Term, end_of-Term, more_of-Term, items-the_row-Term}
 use Rattle.npa_term.specs.declared.term.Term.TheVariants.{Var, Name, App'}
 use Rattle.npa_term.specs.Bound.{value_of}
-use Rattle.npa_match.specs.Matching.{least_sort}
-use Rattle.npa_match.specs.Computed.{same_op, turned, is_same}
+use Rattle.npa_term.specs.Computed.{same_op, turned, is_same}
+use Rattle.npa_term.specs.Parts.{least_sort}
 
 -- The order in which matchers are answered: that of a search by branches, each of which carries
 -- the variables that it has bound so far.
@@ -68,3 +68,8 @@ branches o pairs = after_pairs o pairs []
 abbrev pub first_of : List (List (Variable × Term)) → Option (List (Variable × Term))
 first_of [] = None
 first_of (s ∷ ss) = Some s
+
+-- A term that matches any other in one way at most, whatever is bound.
+abbrev pub MatchesOnce : Term → Type 0
+MatchesOnce t =
+    (o : Subsorts) (u : Term) (s : List (Variable × Term)) → length (after_term o t u s) ≤ 1

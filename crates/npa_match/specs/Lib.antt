@@ -1,4 +1,3 @@
 pub mod Branches
-pub mod Computed
 pub mod Matching
 pub mod Search

@@ -1,23 +1,12 @@
-use Rattle.std.specs.Prelude.{◌≡◌, ℕ, ◌<◌, Some, IsSome, Contains, All, AllPairs, List, ◌∷◌, ◌++◌, length, []}
+use Rattle.std.specs.Prelude.{◌≡◌, ℕ, ◌<◌, Some, IsSome, Contains, All, AllPairs, List, ◌∷◌, ◌++◌, length, map, []}
+use Rattle.std.specs.Borrow.{Bor}
 use Rattle.npa_sorts.specs.Subsorts.{Subsorts, IsAtOrBelow}
-use Rattle.npa_term.specs.declared.term.Op.{Op}
 use Rattle.npa_term.specs.declared.term.Var.{Var as Variable}
 use Rattle.npa_term.specs.declared.term.Term.{Term}
-use Rattle.npa_term.specs.declared.term.Term.TheVariants.{Var, Name, App, App'}
 use Rattle.npa_term.specs.Bound.{value_of, applied, BindsOnce}
+use Rattle.npa_term.specs.Parts.{IsPart, image, least_sort}
 use Rattle.npa_term.specs.Same.{Same}
 use Rattle.npa_term.specs.Variables.{variables}
-
--- The least sort of a term: a variable's own, `Fresh` for a fresh name, an operator's result
--- (Goguen, Meseguer 1992, on the least sort of a term).
-abbrev pub least_sort : Term → ℕ
-least_sort (Var v) = v.sort
-least_sort (Name n) = 1
-least_sort (App' op k args) = op.result
-
--- The term that a substitution has for a variable: the variable itself where it isn't bound.
-abbrev pub image : List (Variable × Term) → Variable → Term
-image s v = applied s (Var v)
 
 -- The variables of the first members of pairs, one for each occurrence.
 abbrev pub first_variables : List (Term × Term) → List Variable
@@ -33,12 +22,6 @@ pub record Matches (o : Subsorts) (pairs : List (Term × Term)) (s : List (Varia
   pub sorts : (v : Variable) → Contains (first_variables pairs) v →
       IsAtOrBelow o (least_sort (image s v)) v.sort
   pub equal : (t u : Term) → Contains pairs (t, u) → Same (applied s t) u
-
--- A part of a term: the term itself, or a part of an argument.
-pub data IsPart (t : Term) : Term → Type 0 where
-  whole : IsPart t t
-  inside : (op : Op) (us : List Term) (u : Term) → Contains us u → IsPart t u →
-      IsPart t (App op us)
 
 -- A part of a second member.
 abbrev pub IsSecondPart : List (Term × Term) → Term → Type 0
@@ -72,3 +55,29 @@ abbrev pub HasMore : ℕ → Subsorts → List (Term × Term) → Type 0
 HasMore most o pairs =
     (ss : List (List (Variable × Term))) × (most < length ss) × All (IsMatcher o pairs) ss
     × AreDifferent (first_variables pairs) ss
+
+-- Some substitution matches the pairs.
+pub record HasMatch (o : Subsorts) (pairs : List (Term × Term)) : Type 0 where
+  pub by_ : List (Variable × Term)
+  pub matches : Matches o pairs by_
+
+-- There is a matcher of the pairs.
+pub record HasMatcher (o : Subsorts) (pairs : List (Term × Term)) : Type 0 where
+  pub by_ : List (Variable × Term)
+  pub is : IsMatcher o pairs by_
+
+-- The pairs of terms that pairs of references stand for.
+abbrev pub read_pairs : List (Bor Term × Bor Term) → List (Term × Term)
+read_pairs ps = map (λ p. (p.0.now, p.1.now)) ps
+
+-- The substitution that bindings of references stand for.
+abbrev pub bound_pairs : List (Variable × Bor Term) → List (Variable × Term)
+bound_pairs bs = map (λ b. (b.0, b.1.now)) bs
+
+-- The second list is the first without its first member.
+abbrev pub IsFollowed : List (List (Variable × Term)) → List (List (Variable × Term)) → Type 0
+IsFollowed all left = (first : List (Variable × Term)) × (all ≡ first ∷ left)
+
+-- The second list is the end of the first.
+abbrev pub AreLast : List (List (Variable × Term)) → List (List (Variable × Term)) → Type 0
+AreLast all left = (front : List (List (Variable × Term))) × (all ≡ front ++ left)

@@ -1,30 +1,35 @@
-use Rattle.std.specs.Prelude.{◌≡◌, ℕ, ◌+◌, ◌^◌, Bool, true, false, ◌&&◌, Option, Some, None, List, ◌∷◌, ◌++◌, map, reverse, zip, []}
+use Rattle.std.specs.Prelude.{◌≡◌, ℕ, ◌+◌, ◌^◌, Option, Some, None, ⊤, List, ◌∷◌, ◌++◌, flat_map, map, reverse, zip, []}
 use Rattle.std.specs.Borrow.{Bor}
 use Rattle.npa_sorts.specs.Subsorts.{Subsorts}
 use Rattle.npa_term.specs.declared.term.Var.{Var as Variable}
 use Rattle.npa_term.specs.declared.term.Term.{Term}
+use Rattle.npa_term.specs.Bound.{BindsOnce}
+use Rattle.npa_term.specs.Computed.{turned}
 use Rattle.npa_term.specs.Symbols.{symbol_count}
 use Rattle.npa_match.specs.declared.search.Branch.{Branch}
 use Rattle.npa_match.specs.declared.search.Outcome.{Outcome}
 use Rattle.npa_match.specs.declared.search.Outcome.TheVariants.{Fails, Binds, Forks}
-use Rattle.npa_match.specs.Branches.{after_pairs}
-use Rattle.npa_match.specs.Computed.{is_same, turned}
+use Rattle.npa_match.specs.Branches.{after_term, after_pairs}
+use Rattle.npa_match.specs.Matching.{bound_pairs}
 
 -- What the private clauses of the search speak of.
 
--- Whether lists of terms are as long and equal place by place.
-abbrev pub all_same : List Term → List Term → Bool
-all_same [] [] = true
-all_same [] (u ∷ us) = false
-all_same (t ∷ ts) [] = false
-all_same (t ∷ ts) (u ∷ us) = is_same t u && all_same ts us
+-- The branches that a branch becomes by lists of terms, matched place by place.
+abbrev pub after_all : Subsorts → List Term → List Term → List (Variable × Term) →
+    List (List (Variable × Term))
+after_all o [] [] s = s ∷ []
+after_all o [] (u ∷ us) s = []
+after_all o (t ∷ ts) [] s = []
+after_all o (t ∷ ts) (u ∷ us) s = flat_map (after_all o ts us) (after_term o t u s)
+
+-- Each of these substitutions binds each variable once.
+abbrev pub AllBindOnce : List (List (Variable × Term)) → Type 0
+AllBindOnce [] = ⊤
+AllBindOnce (s ∷ ss) = BindsOnce s × AllBindOnce ss
 
 -- The pairs that goals stand for, the next one first.
 abbrev pub goal_pairs : List (Bor Term × Bor Term) → List (Term × Term)
 goal_pairs gs = reverse (map (λ g. (g.0.now, g.1.now)) gs)
-
-abbrev pub bound_pairs : List (Variable × Bor Term) → List (Variable × Term)
-bound_pairs bs = map (λ b. (b.0, b.1.now)) bs
 
 -- The pairs that a branch has still to match, in order.
 abbrev pub pairs_of : Branch → List (Term × Term)

@@ -1,4 +1,5 @@
 use npa_term::NoMemory;
+use std::alloc::AllocError;
 use thiserror::Error;
 
 /// Why `matches` answered no matchers.
@@ -18,6 +19,17 @@ impl From<NoMemory> for MatchFail {
     ghost from_gives = { λ _ e. e ≡ OutOfMemory };
 
     fn from(_error: NoMemory) -> MatchFail {
+        MatchFail::NoMemory
+    }
+}
+
+impl From<AllocError> for MatchFail {
+    ghost use Rattle.std.specs.Prelude.{◌≡◌};
+    ghost use Rattle.npa_match.specs.declared.error.MatchFail.TheVariants.{NoMemory as OutOfMemory};
+
+    ghost from_gives = { λ _ e. e ≡ OutOfMemory };
+
+    fn from(_error: AllocError) -> MatchFail {
         MatchFail::NoMemory
     }
 }

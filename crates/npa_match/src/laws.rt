@@ -9,10 +9,11 @@ ghost use Rattle.npa_term.specs.declared.term.Var.{Var as Variable};
 ghost use Rattle.npa_term.specs.Agreeing.{Agrees, ValuesAgree};
 ghost use Rattle.npa_term.specs.Bound.{applied, value_of};
 ghost use Rattle.npa_term.specs.Canonical.{canonical};
+ghost use Rattle.npa_term.specs.Computed.{is_same};
+ghost use Rattle.npa_term.specs.Parts.{IsPart};
 ghost use Rattle.npa_term.specs.Same.{Same};
 ghost use Rattle.npa_term.specs.Variables.{IsGround};
-ghost use Rattle.npa_match.specs.Computed.{is_same};
-ghost use Rattle.npa_match.specs.Matching.{AllSecond, IsMatcher, IsPart};
+ghost use Rattle.npa_match.specs.Matching.{AllSecond, IsMatcher};
 
 /// The tests by which branches are defined say what the relations say.
 pub fn test_laws()

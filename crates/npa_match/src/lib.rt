@@ -3,14 +3,15 @@
 #![tactic(auto)]
 
 mod error;
+mod extension;
 mod laws;
+mod matchers;
 mod matching;
 mod search;
-mod terms;
+mod shape;
 
 pub use error::MatchFail;
+pub use extension::{Bindings, extend, match_once};
 pub use laws::{matcher_laws, part_laws, test_laws};
-pub use matching::{MAX_MATCHERS, find, matches};
-
-#[cfg(test)]
-mod tests;
+pub use matchers::Matchers;
+pub use matching::{MAX_MATCHERS, find, find_match, has_match, matches};

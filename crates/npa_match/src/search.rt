@@ -1,14 +1,13 @@
-ghost use Rattle.std.specs.Prelude.{◌≡◌, ◌<◌, ◌+◌, [], ◌∷◌, ◌++◌, cond, take, length, zip, IfOk, OnOk, MatchOption, List};
+ghost use Rattle.std.specs.Prelude.{◌≡◌, ◌<◌, [], ◌∷◌, ◌++◌, None, cond, length, reverse, zip, IfOk, IfSome, OnOk, OnErr, MatchOption, List};
 ghost use Rattle.std.specs.Option.{option_copied};
 ghost use Rattle.npa_term.specs.Bound.{value_of, BindsOnce};
 ghost use Rattle.npa_term.specs.declared.term.Term.{Term, App};
-ghost use Rattle.npa_match.specs.Branches.{at_variable, branches, forks};
-ghost use Rattle.npa_match.specs.Search.{IsFork, bound_of, bound_pairs, ends_of, goal_pairs, outcome_ends, outcome_work, pairs_of, work};
+ghost use Rattle.npa_match.specs.Branches.{at_variable, forks};
+ghost use Rattle.npa_match.specs.Matching.{AreLast, bound_pairs, read_pairs};
+ghost use Rattle.npa_match.specs.Search.{IsFork, bound_of, ends_of, goal_pairs, outcome_ends, outcome_work, pairs_of, waiting_ends, work};
 
-use crate::terms::{equals, sort_of};
-use npa_list::List;
 use npa_sorts::Sorts;
-use npa_term::{NoMemory, Op, Subst, Substs, Term, TermPairs, Var, copy};
+use npa_term::{NoMemory, Op, Subst, Term, Var, copy, equals, sort_of};
 use smallvec::SmallVec;
 use std::alloc::Global;
 
@@ -16,7 +15,7 @@ use std::alloc::Global;
 type Goals<'a> = Vec<(&'a Term, &'a Term)>;
 
 /// Variables that a branch has bound, each with a part of a second member.
-type Bound<'a> = Vec<(Var, &'a Term)>;
+pub(crate) type Bound<'a> = Vec<(Var, &'a Term)>;
 
 /// A branch of the search.
 #[derive(Drop)]
@@ -34,52 +33,53 @@ pub(crate) enum Outcome<'a> {
     Forks(Branch<'a>, Branch<'a>),
 }
 
-/// The ends of the branches in their order, as substitutions, up to one more than `most`.
-pub(crate) fn search(
+/// Branches that wait, the next one last. A place is an `Option` since a place of a `SmallVec` must
+/// have a default.
+pub(crate) type Waiting<'a> = SmallVec<Option<Branch<'a>>, 2>;
+
+/// What the first branch that comes to its end has bound. The branches behind it wait on; where
+/// memory is wanting, those behind the one that was followed do.
+pub(crate) fn next_end<'a>(
     alloc: Global,
     sorts: &Sorts,
-    pairs: &TermPairs,
-    most: u64,
-) -> Result<Substs, NoMemory>
-    ensures { IfOk result (λ found. found ≡ take (most + 1) (branches sorts.now pairs.now)) }
+    waiting: &mut Waiting<'a>,
+) -> Result<Option<Bound<'a>>, NoMemory>
+    ensures found { IfOk result (λ found. IfSome found (λ bound.
+        waiting_ends sorts.now (reverse waiting.old.items)
+        ≡ bound_pairs bound.items ∷ waiting_ends sorts.now (reverse waiting.new.items))) }
+    ensures none { IfOk result (λ found. found ≡ None
+        → waiting_ends sorts.now (reverse waiting.old.items) ≡ []) }
+    ensures empty { IfOk result (λ found. found ≡ None → waiting.new.items ≡ []) }
+    ensures lost { OnErr result (AreLast (waiting_ends sorts.now (reverse waiting.old.items))
+        (waiting_ends sorts.now (reverse waiting.new.items))) }
 {
-    let mut found = List::new(alloc);
-    // A place is an `Option` since a place of a `SmallVec` must have a default.
-    let mut waiting: SmallVec<Option<Branch<'_>>, 2> = SmallVec::new(alloc);
-    waiting.push(Some(start(alloc, pairs)?))?;
     while let Some(Some(branch)) = waiting.pop() {
         match advance(alloc, sorts, branch)? {
             Outcome::Fails => {}
-            Outcome::Binds(bound) => {
-                found.push(substitution(alloc, bound.as_slice())?)?;
-                if found.len() as u64 > most {
-                    return Ok(found);
-                }
-            }
+            Outcome::Binds(bound) => return Ok(Some(bound)),
             Outcome::Forks(straight, crossed) => {
                 waiting.push(Some(crossed))?;
                 waiting.push(Some(straight))?;
             }
         }
     }
-    Ok(found)
+    waiting.clear();
+    Ok(None)
 }
 
-// The branch that has all pairs to match and binds nothing.
-fn start<'a>(alloc: Global, pairs: &'a TermPairs) -> Result<Branch<'a>, NoMemory>
-    ensures pairs { IfOk result (λ branch. pairs_of branch ≡ pairs.now) }
-    ensures bound { IfOk result (λ branch. bound_of branch ≡ []) }
+/// The branch that has all pairs to match and binds what is bound.
+pub(crate) fn start<'a>(
+    alloc: Global,
+    bound: &[(Var, &'a Term)],
+    pairs: &[(&'a Term, &'a Term)],
+) -> Result<Branch<'a>, NoMemory>
+    ensures pairs { IfOk result (λ branch. pairs_of branch ≡ read_pairs pairs.now) }
+    ensures bound { IfOk result (λ branch. bound_of branch ≡ bound_pairs bound.now) }
 {
-    let mut goals = Vec::with_capacity(alloc, pairs.len())?;
-    let members = pairs.as_slice();
-    for i in 0..members.len() {
-        let (t, u) = &members[members.len() - 1 - i];
-        goals.push((t, u))?;
-    }
-    Ok(Branch {
-        goals,
-        bound: Vec::new(alloc),
-    })
+    let mut goals = Vec::from_slice(alloc, pairs)?;
+    goals.reverse();
+    let bound = Vec::from_slice(alloc, bound)?;
+    Ok(Branch { goals, bound })
 }
 
 // Follows a branch to where it fails, ends or forks.
@@ -150,8 +150,8 @@ fn fork<'a>(
     ))
 }
 
-// The arguments of a term, where it is one of this operator.
-fn arguments<'a>(t: &'a Term, op: Op) -> Option<&'a [Term]>
+/// The arguments of a term, where it is one of this operator.
+pub(crate) fn arguments<'a>(t: &'a Term, op: Op) -> Option<&'a [Term]>
     ensures { MatchOption result ((us : List Term) → t.now ≡ App op us → ⊥)
         (λ us. t.now ≡ App op us.now) }
 {
@@ -220,8 +220,8 @@ fn value<'a>(bound: &[(Var, &'a Term)], v: Var) -> Option<&'a Term>
     None
 }
 
-// What a branch has bound, as a substitution.
-fn substitution(alloc: Global, bound: &[(Var, &Term)]) -> Result<Subst, NoMemory>
+/// What a branch has bound, as a substitution.
+pub(crate) fn substitution(alloc: Global, bound: &[(Var, &Term)]) -> Result<Subst, NoMemory>
     requires { BindsOnce (bound_pairs bound.now) }
     ensures { IfOk result (λ s. s ≡ bound_pairs bound.now) }
 {

@@ -2,7 +2,7 @@
 use Rattle.std.proofs.Common.{◌≡◌, ℕ, zero, suc, ◌<◌, List, [], ◌∷◌, ◌++◌, append_assoc, Option, Some, None, refl, sym, subst, inl, inr, arith}
 use Rattle.std.specs.Prelude.{Contains}
 use Rattle.std.specs.List.{All}
-use Rattle.std.specs.Option.{option_map, IfSome}
+use Rattle.std.specs.Option.{option_map, IfSome, option_or}
 use Rattle.std.proofs.lemmas.List.Elements.{All-head, All-tail, All-contains_itself, Contains-append_cases}
 use Rattle.npa_term.specs.declared.term.Op.{Op}
 use Rattle.npa_term.specs.declared.term.Var.{Var as Variable}
@@ -12,15 +12,15 @@ use Rattle.npa_term.specs.Canonical.{canonical}
 use Rattle.npa_term.specs.Symbols.{symbol_count}
 use Rattle.npa_term.proofs.CanonicalLaws.{canonical-canonical}
 use Rattle.npa_term.proofs.Induction.{Each, by_terms}
+use Rattle.npa_term.proofs.Parts.{only_member}
 use Rattle.npa_match.specs.Matching.{IsMatcher}
 use Rattle.npa_match.proofs.Answered.{first_answered, none_answered}
 use Rattle.npa_sig.specs.declared.protocol.Equation.{Equation}
 use Rattle.npa_rewrite.specs.declared.theory.Theory.{Theory}
-use Rattle.npa_rewrite.specs.Innermost.{at_root, innermost, first_or, matcher}
+use Rattle.npa_rewrite.specs.Innermost.{at_root, innermost, matcher}
 use Rattle.npa_rewrite.specs.Rewriting.{Rewrites, IsNormal, IsNormalFormOf, AllCancel, Steps, none, more}
 use Rattle.npa_rewrite.specs.Stepping.{AreUnmatched, IsRootStep, IsOutcome, IsRootOutcome, outcome_of}
 use Rattle.npa_rewrite.proofs.Kept.{smaller}
-use Rattle.npa_rewrite.proofs.Parts.{only_member}
 use Rattle.npa_rewrite.proofs.Root.{matches_from}
 use Rattle.npa_rewrite.proofs.Under.{canonical_in, rewrites_in, normal_app}
 use Rattle.npa_rewrite.proofs.Walk.{innermost_all, innermost_at, outcome_name, outcome_var, step_canonical}
@@ -32,7 +32,7 @@ Tells th es t (Some u) = IsRootStep th t u
 
 tells_more : (th : Theory) (e : Equation) (es : List Equation) (t : Term) (m : Option (List (Variable × Term))) (o : Option Term) →
     Contains th.equations e → IfSome m (IsMatcher th.sig.sorts ((e.left, t) ∷ [])) → (m ≡ None → AreUnmatched th.sig.sorts e.left t) → Tells th es t o →
-    Tells th (e ∷ es) t (first_or (option_map (λ s. canonical (applied s e.right)) m) o)
+    Tells th (e ∷ es) t (option_or (option_map (λ s. canonical (applied s e.right)) m) o)
 tells_more th e es t (Some s) o c matched unmatched rest = record { equation = e; matcher = s; listed = c; matches = matched; form = refl }
 tells_more th e es t None (Some u) c matched unmatched rest = rest
 tells_more th e es t None None c matched unmatched rest = λ f d.
@@ -58,7 +58,7 @@ AllTold th op before ts None = Each (IsNormal th) ts
 AllTold th op before ts (Some us) = Rewrites th (App op (before ++ ts)) (canonical (App op (before ++ us)))
 
 all_more : (th : Theory) (op : Op) (before : List Term) (t : Term) (ts : List Term) (o : Option Term) (p : Option (List Term)) → IsOutcome th t (outcome_of t o) → AllTold th op (before ++ t ∷ []) ts p →
-    AllTold th op before (t ∷ ts) (first_or (option_map (λ u. u ∷ ts) o) (option_map (λ us. t ∷ us) p))
+    AllTold th op before (t ∷ ts) (option_or (option_map (λ u. u ∷ ts) o) (option_map (λ us. t ∷ us) p))
 all_more th op before t ts (Some u) p step rest =
     subst (Rewrites th (App op (before ++ t ∷ ts))) (canonical_in op before ts (canonical u) u (canonical-canonical u)) (rewrites_in th op before ts t (canonical u) step)
 all_more th op before t ts None None step rest = (step, rest)
@@ -73,7 +73,7 @@ all_told th op before (t ∷ ts) each =
     all_more th op before t ts (innermost (at_root th.sig.sorts th.equations) t) (innermost_all (at_root th.sig.sorts th.equations) ts) each.0 (all_told th op (before ++ t ∷ []) ts each.1)
 
 app_told : (th : Theory) (op : Op) (ts : List Term) (p : Option (List Term)) (o : Option Term) → AllTold th op [] ts p → IsRootOutcome th (App op ts) (outcome_of (App op ts) o) →
-    IsOutcome th (App op ts) (outcome_of (App op ts) (first_or (option_map (λ us. App op us) p) o))
+    IsOutcome th (App op ts) (outcome_of (App op ts) (option_or (option_map (λ us. App op us) p) o))
 app_told th op ts (Some us) o all root = all
 app_told th op ts None (Some u) all root = step_canonical th (App op ts) u root
 app_told th op ts None None all root = normal_app th op ts all root

@@ -11,6 +11,7 @@ use Rattle.npa_term.specs.declared.term.Term.{Term, Var, App}
 use Rattle.npa_term.specs.Bound.{applied}
 use Rattle.npa_term.specs.Canonical.{canonical}
 use Rattle.npa_term.specs.Order.{term_cmp}
+use Rattle.npa_term.specs.Parts.{least_sort}
 use Rattle.npa_term.specs.Same.{Same, itself, through, swapped, below, SameAll, nothing, first}
 use Rattle.npa_term.specs.Symbols.{symbol_count, all_count}
 use Rattle.npa_term.specs.Variables.{variables, IsGround}
@@ -18,15 +19,13 @@ use Rattle.npa_term.proofs.CanonicalLaws.{canonical_same, canonical-canonical}
 use Rattle.npa_term.proofs.GroundLaws.{ground_app, ground_arguments, ground_canonical}
 use Rattle.npa_term.proofs.Induction.{Each, by_terms}
 use Rattle.npa_term.proofs.OrderLaws.{term_cmp_total}
+use Rattle.npa_term.proofs.Parts.{same_sort, counted_below, is_app, only_member}
 use Rattle.npa_term.proofs.Rows.{applied_app, applied_at, symbol_count_at, variables_at}
 use Rattle.npa_term.proofs.SameLaws.{same_count}
-use Rattle.npa_match.specs.Matching.{least_sort}
-use Rattle.npa_match.proofs.Matchers.{same_sort}
 use Rattle.npa_sig.specs.Sorting.{well_sorted}
 use Rattle.npa_sig.specs.declared.protocol.Equation.{Equation}
 use Rattle.npa_rewrite.specs.declared.theory.Theory.{Theory}
 use Rattle.npa_rewrite.specs.Rewriting.{Replaces, here, inside, Rewrites, IsNormal, IsNormalFormOf, IsLeastNormalForm, IsConvergent, IsCancelling, AllCancel, Steps, none, more}
-use Rattle.npa_rewrite.proofs.Parts.{counted_below, is_app, only_member}
 use Rattle.npa_rewrite.proofs.Under.{rewrites_same}
 
 pub shape_of : (th : Theory) → AllCancel th → (e : Equation) → Contains th.equations e → IsCancelling th.sig.sorts e

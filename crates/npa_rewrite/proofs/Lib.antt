@@ -1,6 +1,7 @@
 pub mod Existence
 pub mod Forms
 pub mod Kept
+pub mod Normality
 pub mod Normalized
 pub mod Occurrences
 pub mod Parts

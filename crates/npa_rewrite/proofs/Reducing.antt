@@ -3,7 +3,7 @@
 use Rattle.std.proofs.Common.{◌≡◌, ℕ, zero, suc, ◌<◌, true, List, [], ◌∷◌, map, Option, Some, None, refl, sym, ◌∙◌, ap, subst, arith}
 use Rattle.std.specs.Prelude.{unwrap_or}
 use Rattle.std.specs.List.{AllZip}
-use Rattle.std.specs.Option.{option_map}
+use Rattle.std.specs.Option.{option_map, option_or}
 use Rattle.npa_term.specs.declared.term.Op.{Op}
 use Rattle.npa_term.specs.declared.term.Term.{Term, Var, Name, App}
 use Rattle.npa_term.specs.Agreeing.{Agrees}
@@ -13,11 +13,11 @@ use Rattle.npa_term.specs.Symbols.{symbol_count, all_count}
 use Rattle.npa_term.proofs.AgreeingLaws.{agrees_app, agrees_arguments, agrees_canonical, same_canonical}
 use Rattle.npa_term.proofs.CanonicalLaws.{by_order, canonical-canonical}
 use Rattle.npa_term.proofs.Induction.{Each, by_terms}
+use Rattle.npa_term.proofs.Parts.{part_agrees}
 use Rattle.npa_term.proofs.Rows.{canonical_app}
 use Rattle.npa_term.proofs.SameCases.{app_injective}
-use Rattle.npa_match.proofs.Parts.{part_agrees}
 use Rattle.npa_rewrite.specs.declared.theory.Theory.{Theory}
-use Rattle.npa_rewrite.specs.Innermost.{at_root, innermost, first_or, reduced, rooted, normalized, Reductions, none, more}
+use Rattle.npa_rewrite.specs.Innermost.{at_root, innermost, reduced, rooted, normalized, Reductions, none, more}
 use Rattle.npa_rewrite.specs.Rewriting.{AllCancel, IsNormal}
 use Rattle.npa_rewrite.specs.Stepping.{IsOutcome, IsRootOutcome, outcome_of}
 use Rattle.npa_rewrite.proofs.Existence.{innermost_told, root_told}
@@ -78,7 +78,7 @@ smaller_next : (th : Theory) → AllCancel th → (t v : Term) → walk th t ≡
 smaller_next th cancel t v e = smaller th t (canonical v) cancel (subst (λ o. IsOutcome th t (outcome_of t o)) e (innermost_told th t))
 
 stepped_more : (th : Theory) → AllCancel th → (t u : Term) (ts us : List Term) (o : Option Term) (p : Option (List Term)) → walk th t ≡ o → Ends th t u → AllEnd th ts us → Stepped th ts us p →
-    Stepped th (t ∷ ts) (u ∷ us) (first_or (option_map (λ v. v ∷ ts) o) (option_map (λ vs. t ∷ vs) p))
+    Stepped th (t ∷ ts) (u ∷ us) (option_or (option_map (λ v. v ∷ ts) o) (option_map (λ vs. t ∷ vs) p))
 stepped_more th cancel t u ts us (Some v) p e end ends rest =
     let less = smaller_next th cancel t v e in
     let settled = settled_all th ts us ends in
@@ -153,9 +153,9 @@ root_last th t (Some u) settled e told =
     let form : canonical u ≡ u = ap canonical told.form ∙ canonical-canonical _ ∙ sym told.form in
     more t u u (reduced_is th t (Some u) settled e ∙ ap Some form) (none u)
 
-walk_is : (th : Theory) (op : Op) (ts : List Term) (o : Option (List Term)) → innermost_all (root th) ts ≡ o → walk th (App op ts) ≡ first_or (option_map (λ us. App op us) o) (root th (App op ts))
+walk_is : (th : Theory) (op : Op) (ts : List Term) (o : Option (List Term)) → innermost_all (root th) ts ≡ o → walk th (App op ts) ≡ option_or (option_map (λ us. App op us) o) (root th (App op ts))
 walk_is th op ts o e =
-    innermost_at (root th) (App op ts) op ts refl ∙ ap (λ p. first_or (option_map (λ us. App op us) p) (root th (App op ts))) e
+    innermost_at (root th) (App op ts) op ts refl ∙ ap (λ p. option_or (option_map (λ us. App op us) p) (root th (App op ts))) e
 
 -- from canonical arguments in order, as long as there are enough symbols
 reach_next : (th : Theory) (op : Op) (n : ℕ) (ts us : List Term) (o : Option (List Term)) → canonical (App op ts) ≡ App op ts → ordered op ts ≡ ts → all_count ts < suc n →

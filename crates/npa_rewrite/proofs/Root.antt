@@ -1,50 +1,32 @@
 -- Matching at the root of a term.
-use Rattle.std.proofs.Common.{◌≡◌, ℕ, zero, ◌<◌, false, nat_eq, ◌≤◌, List, [], ◌∷◌, length, take, get_or, Option, Some, refl, sym, ◌∙◌, subst, arith}
-use Rattle.std.specs.Prelude.{Contains}
+use Rattle.std.proofs.Common.{◌≡◌, ℕ, zero, suc, ◌<◌, ◌≤◌, List, [], ◌∷◌, length, take, get_or, Bool, true, false, Result, Ok, Err, IfOk, IsTrue, Option, Some, refl, sym, ◌∙◌, subst, arith}
+use Rattle.std.specs.Prelude.{◌↔◌, Contains}
 use Rattle.std.specs.List.{All}
 use Rattle.std.specs.Option.{IfSome}
 use Rattle.std.proofs.lemmas.List.{append-nil, take_all}
-use Rattle.std.proofs.lemmas.List.Elements.{All-contains, Contains-get_or}
+use Rattle.std.proofs.lemmas.List.Elements.{All-contains, All-head, All-tail, Contains-get_or}
 use Rattle.npa_sorts.specs.Subsorts.{Subsorts}
 use Rattle.npa_term.specs.declared.term.Op.{Op}
 use Rattle.npa_term.specs.declared.term.Var.{Var as Variable}
-use Rattle.npa_term.specs.declared.term.Term.{Term, Var, Name, App, App', items-the_row-Term}
-use Rattle.npa_term.specs.Bound.{applied, applied_row}
+use Rattle.npa_term.specs.declared.term.Term.{Term, Var, Name, App}
+use Rattle.npa_term.specs.Bound.{applied}
 use Rattle.npa_term.specs.Canonical.{canonical}
 use Rattle.npa_term.specs.Same.{Same}
 use Rattle.npa_term.specs.Variables.{variables}
-use Rattle.npa_term.proofs.Induction.{app_items}
+use Rattle.npa_term.proofs.Induction.{Each, term_cases}
+use Rattle.npa_term.proofs.Parts.{is_app, only_member}
 use Rattle.npa_term.proofs.Rows.{applied_at}
-use Rattle.npa_term.proofs.SameCases.{app_injective, same_app, same_only_var, same_only_name}
+use Rattle.npa_term.proofs.SameCases.{same_app}
 use Rattle.npa_term.proofs.SameLaws.{same_sym}
-use Rattle.npa_match.specs.Matching.{Matches, IsMatcher}
+use Rattle.npa_match.specs.Matching.{HasMatcher, Matches, IsMatcher}
 use Rattle.npa_sig.specs.declared.protocol.Equation.{Equation}
 use Rattle.npa_rewrite.specs.declared.theory.Theory.{Theory}
-use Rattle.npa_rewrite.specs.Rewriting.{RespectsSorts, IsCancelling, AllCancel, Steps, none, IsNormal}
-use Rattle.npa_rewrite.specs.Stepping.{HasNoMatch, AreUnmatched, IsRootStep, heads_agree}
-use Rattle.npa_rewrite.proofs.Parts.{is_app, only_member}
-use Rattle.npa_rewrite.proofs.Under.{normal_var, normal_name}
+use Rattle.npa_rewrite.specs.Rewriting.{FitsSorts, IsCancelling, AllCancel, Steps, none, IsNormal, here}
+use Rattle.npa_rewrite.specs.Stepping.{HasNoMatch, AreUnmatched, IsRootStep}
+use Rattle.npa_rewrite.proofs.Parts.{matcher_respects}
+use Rattle.npa_rewrite.proofs.Under.{arguments_normal, normal_app, normal_var, normal_name, replaced, rewrites_same}
 
-nat_eq-itself : (n : ℕ) → nat_eq n n ≡ false → ⊥
-nat_eq-itself n e = grind arith
-
-apart : (s : List (Variable × Term)) (t u : Term) → heads_agree t u ≡ false → Same (applied s t) u → ⊥
-apart s (Var v) u e p = cc
-apart s (Name m) (Var w) e p = let is = same_only_name p m refl in cc
-apart s (Name m) (Name n) e p = cc
-apart s (Name m) (App' g k us) e p = let is = same_only_name p m refl in cc
-apart s (App' f j ts) (Var w) e p = let is = same_only_var (same_sym p) w refl in cc
-apart s (App' f j ts) (Name n) e p = let is = same_only_name (same_sym p) n refl in cc
-apart s (App' f j ts) (App' g k us) e p =
-    let cases = same_app p f (applied_row s ts) refl in
-    let heads : g ≡ f = (app_injective g f (items-the_row-Term _ us) cases.0 (sym (app_items g k us) ∙ cases.1)).0 in
-    nat_eq-itself f.num (subst (λ (h : Op). nat_eq f.num h.num ≡ false) heads e)
-
--- terms with different heads don't match
-pub unmatched_heads : (o : Subsorts) (t u : Term) → heads_agree t u ≡ false → AreUnmatched o t u
-unmatched_heads o t u e = λ s m. apart s t u e (m.equal t u (zero, omega arith, refl))
-
-pub matches_from : (o : Subsorts) (t u : Term) (s : List (Variable × Term)) → RespectsSorts o (variables t) s → Same (applied s t) u → Matches o ((t, u) ∷ []) s
+pub matches_from : (o : Subsorts) (t u : Term) (s : List (Variable × Term)) → FitsSorts o (variables t) s → Same (applied s t) u → Matches o ((t, u) ∷ []) s
 matches_from o t u s q p = record {
   sorts = λ v c. q v (subst (λ vs. Contains vs v) (append-nil (variables t)) c);
   equal = λ a b c. subst (λ (x : Term × Term). Same (applied s x.0) x.1) (only_member (t, u) (a, b) c) p;
@@ -93,3 +75,45 @@ leaf_name th n cancel = normal_name th n (λ e s c q p. let app = left_app th ca
 
 pub steps_none : (th : Theory) (t u : Term) → t ≡ u → Steps th t u
 steps_none th t u e = subst (Steps th t) e none
+
+-- a left side that matches a term tells against it
+pub matched_some : (th : Theory) (t : Term) (es : List Equation) (i : ℕ) (e : Equation) (o : Subsorts) → es ≡ th.equations → i < length es → e ≡ get_or es i e → o ≡ th.sig.sorts →
+    HasMatcher o ((e.left, t) ∷ []) → HasNoMatch th t → ⊥
+matched_some th t es i e o same small at sorts m never =
+    let ps : List (Term × Term) = (e.left, t) ∷ [] in
+    let is : IsMatcher th.sig.sorts ps m.by_ = subst (λ p. IsMatcher p ps m.by_) sorts m.is in
+    let listed = subst (λ xs. Contains xs e) same (subst (Contains es) (sym at) (Contains-get_or es i e small)) in
+    never e m.by_ listed (matcher_respects th.sig.sorts e.left t m.by_ is.matches) (is.matches.equal e.left t (zero, omega arith, refl))
+
+-- and a normal term has no such left side
+pub normal_unmatched : (th : Theory) (t : Term) → IsNormal th t → HasNoMatch th t
+normal_unmatched th t normal e s c q p =
+    normal (canonical (applied s e.right))
+    (rewrites_same th t (applied s e.left) (canonical (applied s e.right)) (same_sym p) (replaced th (applied s e.left) (applied s e.right) (here e s c q)))
+
+-- a term whose arguments are normal is normal exactly where no left side matches it
+pub normal_at : (th : Theory) (t : Term) (op : Op) (ts us : List Term) → t ≡ App op ts → us ≡ ts → All (IsNormal th) us → HasNoMatch th t → IsNormal th t
+normal_at th t op ts us is same all unmatched =
+    subst (IsNormal th) (sym is) (normal_app th op ts (each_of ts (subst (All (IsNormal th)) same all)) (subst (HasNoMatch th) is unmatched)) where
+      each_of : (xs : List Term) → All (IsNormal th) xs → Each (IsNormal th) xs
+      each_of [] a = tt
+      each_of (x ∷ xs) a = (All-head (IsNormal th) x xs a, each_of xs (All-tail (IsNormal th) x xs a))
+
+pub normal_arguments : (th : Theory) (t : Term) (op : Op) (ts us : List Term) → t ≡ App op ts → us ≡ ts → IsNormal th t → All (IsNormal th) us
+normal_arguments th t op ts us is same normal =
+    subst (All (IsNormal th)) (sym same) (all_of ts (arguments_normal th op ts (subst (IsNormal th) is normal))) where
+      all_of : (xs : List Term) → Each (IsNormal th) xs → All (IsNormal th) xs
+      all_of [] a k d small = absurd (let no : ⊥ = omega (arith, small) in no)
+      all_of (x ∷ xs) a zero d small = a.0
+      all_of (x ∷ xs) a (suc k) d small = all_of xs a.1 k d (omega (arith, small))
+
+pub normal_leaf : (th : Theory) (t : Term) → ((op : Op) (ts : List Term) → t ≡ App op ts → ⊥) → HasNoMatch th t → IsNormal th t
+normal_leaf th t leaf unmatched =
+    term_cases (λ u. ((op : Op) (ts : List Term) → u ≡ App op ts → ⊥) → HasNoMatch th u → IsNormal th u)
+    (λ v l m. normal_var th v m) (λ n l m. normal_name th n m) (λ op ts l m. absurd (l op ts refl)) t leaf unmatched
+
+-- a test that decides one thing decides another that is the same
+pub decided : {E : Type 0} (P Q : Type 0) (r : Result Bool E) → IfOk r (λ b. IsTrue b → Q) → IfOk r (λ b. b ≡ false → Q → ⊥) → (Q → P) → (P → Q) → IfOk r (λ b. IsTrue b ↔ P)
+decided P Q (Ok true) sure not_so to back = (λ i. to (sure i), λ p. refl)
+decided P Q (Ok false) sure not_so to back = (λ i. let never : ⊥ = cc in absurd never, λ p. absurd (not_so refl (back p)))
+decided P Q (Err e) sure not_so to back = tt

@@ -1,5 +1,5 @@
 -- Steps keep terms well sorted.
-use Rattle.std.proofs.Common.{◌≡◌, ℕ, zero, suc, Bool, true, false, ◌&&◌, not, cond, List, [], ◌∷◌, ◌++◌, length, map, slice_get, Option, Some, None, refl, sym, ◌∙◌, ap, subst, inl, inr, arith}
+use Rattle.std.proofs.Common.{◌≡◌, ℕ, Bool, true, false, ◌&&◌, List, [], ◌∷◌, ◌++◌, map, slice_get, Option, Some, None, refl, sym, ◌∙◌, ap, subst, inl, inr, arith}
 use Rattle.std.specs.Prelude.{Contains, IsTrue, ◌==◌}
 use Rattle.std.specs.List.{flat_map, list_all}
 use Rattle.std.proofs.lemmas.Bool.{and_parts, eqb-true}
@@ -9,26 +9,24 @@ use Rattle.npa_sorts.proofs.Climbs.{decides}
 use Rattle.npa_sorts.proofs.Steps.{at_or_below_trans}
 use Rattle.npa_term.specs.declared.term.Op.{Op}
 use Rattle.npa_term.specs.declared.term.Var.{Var as Variable}
-use Rattle.npa_term.specs.declared.term.Term.{Term, Var, Name, App, App'}
+use Rattle.npa_term.specs.declared.term.Term.{Term, Var, App}
 use Rattle.npa_term.specs.Bound.{applied}
 use Rattle.npa_term.specs.Canonical.{canonical}
+use Rattle.npa_term.specs.Parts.{image, least_sort}
 use Rattle.npa_term.specs.Same.{Same, itself, through, swapped, below, SameAll, nothing, first}
 use Rattle.npa_term.specs.Variables.{variables}
 use Rattle.npa_term.proofs.CanonicalLaws.{canonical_same}
 use Rattle.npa_term.proofs.Induction.{Each, by_terms}
+use Rattle.npa_term.proofs.Parts.{same_sort, only_member}
 use Rattle.npa_term.proofs.Rows.{applied_app, variables_at}
-use Rattle.npa_match.specs.Matching.{image, least_sort}
-use Rattle.npa_match.proofs.Matchers.{same_sort}
-use Rattle.npa_sig.specs.Signature.{Signature, first_of, first_op_fault, is_pair, op_fault}
-use Rattle.npa_sig.specs.declared.fault.SigFail.{SigFail}
-use Rattle.npa_sig.specs.declared.fault.SigFail.TheVariants.{Fresh, Comm}
-use Rattle.npa_sig.specs.Sorting.{agrees, all_below, is_below, is_declared, same_bool, sort_of, well_sorted}
+use Rattle.npa_sig.specs.Signature.{Signature, is_pair}
+use Rattle.npa_sig.specs.Sorting.{agrees, all_below, is_below, is_declared, same_bool, well_sorted}
 use Rattle.npa_sig.specs.declared.signature.OpDecl.{OpDecl}
 use Rattle.npa_sig.proofs.Rows.{well_sorted_at}
 use Rattle.npa_rewrite.specs.declared.theory.Theory.{Theory}
-use Rattle.npa_rewrite.specs.Rewriting.{Replaces, here, inside, Rewrites, AllCancel, PairsCommute, Steps, none, more}
+use Rattle.npa_rewrite.specs.Rewriting.{Replaces, here, inside, Rewrites, AllCancel, Steps, none, more}
+use Rattle.npa_sig.specs.Operators.{PairsCommute}
 use Rattle.npa_rewrite.proofs.Kept.{replaced_sort, right_is, shape_of}
-use Rattle.npa_rewrite.proofs.Parts.{only_member}
 
 both : (x y : Bool) → x ≡ true → y ≡ true → x && y ≡ true
 both true y d e = e
@@ -63,44 +61,39 @@ swap_declared sig op s t (Some decl) pairs swaps fits =
 below_trans : (sig : Signature) (s t u : ℕ) → is_below sig s t ≡ true → is_below sig t u ≡ true → is_below sig s u ≡ true
 below_trans sig s t u d e = (decides sig.sorts s u).1 (at_or_below_trans ((decides sig.sorts s t).0 d) ((decides sig.sorts t u).0 e))
 
-lower_below : (sig : Signature) (before after : List Term) (t u : Term) (xs : List ℕ) → is_below sig (sort_of u) (sort_of t) ≡ true →
-    all_below sig (map sort_of (before ++ t ∷ after)) xs ≡ true → all_below sig (map sort_of (before ++ u ∷ after)) xs ≡ true
+lower_below : (sig : Signature) (before after : List Term) (t u : Term) (xs : List ℕ) → is_below sig (least_sort u) (least_sort t) ≡ true →
+    all_below sig (map least_sort (before ++ t ∷ after)) xs ≡ true → all_below sig (map least_sort (before ++ u ∷ after)) xs ≡ true
 lower_below sig [] after t u [] low fits = cc
 lower_below sig [] after t u (x ∷ xs) low fits =
-    let parts = and_parts (is_below sig (sort_of t) x) (all_below sig (map sort_of after) xs) fits in
-    both (is_below sig (sort_of u) x) (all_below sig (map sort_of after) xs) (below_trans sig (sort_of u) (sort_of t) x low parts.0) parts.1
+    let parts = and_parts (is_below sig (least_sort t) x) (all_below sig (map least_sort after) xs) fits in
+    both (is_below sig (least_sort u) x) (all_below sig (map least_sort after) xs) (below_trans sig (least_sort u) (least_sort t) x low parts.0) parts.1
 lower_below sig (b ∷ before) after t u [] low fits = cc
 lower_below sig (b ∷ before) after t u (x ∷ xs) low fits =
-    let parts = and_parts (is_below sig (sort_of b) x) (all_below sig (map sort_of (before ++ t ∷ after)) xs) fits in
-    both (is_below sig (sort_of b) x) (all_below sig (map sort_of (before ++ u ∷ after)) xs) parts.0 (lower_below sig before after t u xs low parts.1)
+    let parts = and_parts (is_below sig (least_sort b) x) (all_below sig (map least_sort (before ++ t ∷ after)) xs) fits in
+    both (is_below sig (least_sort b) x) (all_below sig (map least_sort (before ++ u ∷ after)) xs) parts.0 (lower_below sig before after t u xs low parts.1)
 
-lower_declared : (sig : Signature) (op : Op) (before after : List Term) (t u : Term) (o : Option OpDecl) → is_below sig (sort_of u) (sort_of t) ≡ true →
-    is_declared sig op (map sort_of (before ++ t ∷ after)) o ≡ true → is_declared sig op (map sort_of (before ++ u ∷ after)) o ≡ true
+lower_declared : (sig : Signature) (op : Op) (before after : List Term) (t u : Term) (o : Option OpDecl) → is_below sig (least_sort u) (least_sort t) ≡ true →
+    is_declared sig op (map least_sort (before ++ t ∷ after)) o ≡ true → is_declared sig op (map least_sort (before ++ u ∷ after)) o ≡ true
 lower_declared sig op before after t u None low fits = cc
 lower_declared sig op before after t u (Some decl) low fits =
-    let parts = and_parts (agrees op decl) (all_below sig (map sort_of (before ++ t ∷ after)) decl.args) fits in
-    both (agrees op decl) (all_below sig (map sort_of (before ++ u ∷ after)) decl.args) parts.0 (lower_below sig before after t u decl.args low parts.1)
+    let parts = and_parts (agrees op decl) (all_below sig (map least_sort (before ++ t ∷ after)) decl.args) fits in
+    both (agrees op decl) (all_below sig (map least_sort (before ++ u ∷ after)) decl.args) parts.0 (lower_below sig before after t u decl.args low parts.1)
 
 -- an application and its arguments
 sorted_parts : (sig : Signature) (op : Op) (ts : List Term) → well_sorted sig (App op ts) ≡ true →
-    (is_declared sig op (map sort_of ts) (slice_get sig.ops op.num) ≡ true) × (list_all (well_sorted sig) ts ≡ true)
+    (is_declared sig op (map least_sort ts) (slice_get sig.ops op.num) ≡ true) × (list_all (well_sorted sig) ts ≡ true)
 sorted_parts sig op ts sorted =
-    and_parts (is_declared sig op (map sort_of ts) (slice_get sig.ops op.num)) (list_all (well_sorted sig) ts) (sym (well_sorted_at sig (App op ts) op ts refl) ∙ sorted)
+    and_parts (is_declared sig op (map least_sort ts) (slice_get sig.ops op.num)) (list_all (well_sorted sig) ts) (sym (well_sorted_at sig (App op ts) op ts refl) ∙ sorted)
 
-sorted_app : (sig : Signature) (op : Op) (ts : List Term) → is_declared sig op (map sort_of ts) (slice_get sig.ops op.num) ≡ true → list_all (well_sorted sig) ts ≡ true →
+sorted_app : (sig : Signature) (op : Op) (ts : List Term) → is_declared sig op (map least_sort ts) (slice_get sig.ops op.num) ≡ true → list_all (well_sorted sig) ts ≡ true →
     well_sorted sig (App op ts) ≡ true
 sorted_app sig op ts declared each =
-    well_sorted_at sig (App op ts) op ts refl ∙ both (is_declared sig op (map sort_of ts) (slice_get sig.ops op.num)) (list_all (well_sorted sig) ts) declared each
+    well_sorted_at sig (App op ts) op ts refl ∙ both (is_declared sig op (map least_sort ts) (slice_get sig.ops op.num)) (list_all (well_sorted sig) ts) declared each
 
-sort_is : (t : Term) → sort_of t ≡ least_sort t
-sort_is (Var v) = refl
-sort_is (Name n) = refl
-sort_is (App' op n k) = refl
-
-sorts_same : {ts us : List Term} → SameAll ts us → map sort_of ts ≡ map sort_of us
+sorts_same : {ts us : List Term} → SameAll ts us → map least_sort ts ≡ map least_sort us
 sorts_same nothing = refl
 sorts_same (first t u ts us p q) =
-    ap (λ s. s ∷ map sort_of ts) (sort_is t ∙ same_sort t u p ∙ sym (sort_is u)) ∙ ap (λ ss. sort_of u ∷ ss) (sorts_same q)
+    ap (λ s. s ∷ map least_sort ts) (same_sort t u p) ∙ ap (λ ss. least_sort u ∷ ss) (sorts_same q)
 
 mutual
   same_sorted : (sig : Signature) → PairsCommute sig → {t u : Term} → Same t u → well_sorted sig t ≡ true → well_sorted sig u ≡ true
@@ -110,7 +103,7 @@ mutual
       let parts = sorted_parts sig op (t ∷ u ∷ []) sorted in
       let fst = and_parts (well_sorted sig t) (well_sorted sig u && true) parts.1 in
       let snd = and_parts (well_sorted sig u) true fst.1 in
-      sorted_app sig op (u ∷ t ∷ []) (swap_declared sig op (sort_of t) (sort_of u) (slice_get sig.ops op.num) (pairs op.num) swaps parts.0)
+      sorted_app sig op (u ∷ t ∷ []) (swap_declared sig op (least_sort t) (least_sort u) (slice_get sig.ops op.num) (pairs op.num) swaps parts.0)
       (both (well_sorted sig u) (well_sorted sig t && true) snd.0 (both (well_sorted sig t) true fst.0 refl))
   same_sorted sig pairs (below op ts us p) sorted =
       let parts = sorted_parts sig op ts sorted in
@@ -154,9 +147,8 @@ replaced_sorted th cancel (here e s c q) sorted =
     ap (well_sorted th.sig) (right_is th.sig.sorts e s shape) ∙ image_sorted th.sig s shape.var e.left shape.occurs sorted
 replaced_sorted th cancel (inside op before after t u r) sorted =
     let parts = sorted_parts th.sig op (before ++ t ∷ after) sorted in
-    let least : IsAtOrBelow th.sig.sorts (sort_of u) (sort_of t) =
-    subst (λ s. IsAtOrBelow th.sig.sorts s (sort_of t)) (sym (sort_is u)) (subst (IsAtOrBelow th.sig.sorts (least_sort u)) (sym (sort_is t)) (replaced_sort th cancel r)) in
-    let low : is_below th.sig (sort_of u) (sort_of t) ≡ true = (decides th.sig.sorts (sort_of u) (sort_of t)).1 least in
+    let least : IsAtOrBelow th.sig.sorts (least_sort u) (least_sort t) = replaced_sort th cancel r in
+    let low : is_below th.sig (least_sort u) (least_sort t) ≡ true = (decides th.sig.sorts (least_sort u) (least_sort t)).1 least in
     sorted_app th.sig op (before ++ u ∷ after) (lower_declared th.sig op before after t u (slice_get th.sig.ops op.num) low parts.0)
     (sorted_in th.sig before after t u (replaced_sorted th cancel r) parts.1)
 
@@ -178,33 +170,3 @@ steps_sorted th cancel pairs (more u v p r) sorted = keeps_sorted th u v cancel 
 -- and so do the steps from its canonical form
 pub form_sorted : (th : Theory) (t u : Term) → AllCancel th → PairsCommute th.sig → Steps th (canonical t) u → IsTrue (well_sorted th.sig t) → IsTrue (well_sorted th.sig u)
 form_sorted th t u cancel pairs p sorted = steps_sorted th cancel pairs p (same_sorted th.sig pairs (canonical_same t) sorted)
-
--- so it is in a signature whose operators can be declared
-pair_of : (a b p : Bool) (x y : SigFail) (rest : Option SigFail) → cond a (Some x) (cond (b && not p) (Some y) rest) ≡ None → b ≡ true → p ≡ true
-pair_of true b p x y rest e swaps = cc
-pair_of false true true x y rest e swaps = refl
-pair_of false true false x y rest e swaps = cc
-pair_of false false p x y rest e swaps = cc
-
-none_first : (o p : Option SigFail) → first_of o p ≡ None → o ≡ None
-none_first None p e = refl
-none_first (Some f) p e = e
-
-none_rest : (o p : Option SigFail) → first_of o p ≡ None → p ≡ None
-none_rest None p e = e
-none_rest (Some f) p e = cc
-
-op_pairs : (k : ℕ) (before : List (List ℕ)) (decl : OpDecl) → op_fault k before decl ≡ None → decl.com ≡ true → is_pair decl.args ≡ true
-op_pairs k before decl fine swaps = pair_of (decl.result == 1) decl.com (is_pair decl.args) (Fresh k) (Comm k) _ fine swaps
-
-op_pairs_first : (before : List (List ℕ)) (ops : List OpDecl) → first_op_fault before ops ≡ None → (k : ℕ) (decl : OpDecl) → slice_get ops k ≡ Some decl → decl.com ≡ true → is_pair decl.args ≡ true
-op_pairs_first before [] fine k decl at swaps = cc
-op_pairs_first before (d ∷ ds) fine zero decl at swaps =
-    let is : d ≡ decl = cc in
-    subst (λ (x : OpDecl). is_pair x.args ≡ true) is
-    (op_pairs (length before) before d (none_first (op_fault (length before) before d) (first_op_fault (before ++ d.name ∷ []) ds) fine) (subst (λ (x : OpDecl). x.com ≡ true) (sym is) swaps))
-op_pairs_first before (d ∷ ds) fine (suc k) decl at swaps =
-    op_pairs_first (before ++ d.name ∷ []) ds (none_rest (op_fault (length before) before d) (first_op_fault (before ++ d.name ∷ []) ds) fine) k decl at swaps
-
-pub pairs_commute : (sig : Signature) → first_op_fault [] sig.ops ≡ None → PairsCommute sig
-pairs_commute sig fine = op_pairs_first [] sig.ops fine

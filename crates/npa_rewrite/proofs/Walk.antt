@@ -1,7 +1,7 @@
 -- The walk to the first innermost place.
 use Rattle.std.proofs.Common.{◌≡◌, ℕ, suc, ◌+◌, ◌<◌, ◌≤◌, List, [], ◌∷◌, ◌++◌, append_assoc, length, take, drop, get_or, drop-cons, add-one, Option, Some, None, Result, Ok, Err, IfOk, ◌-◌, length-drop, refl, sym, ◌∙◌, ap, subst, arith}
 use Rattle.std.specs.List.{All}
-use Rattle.std.specs.Option.{option_map}
+use Rattle.std.specs.Option.{option_map, option_or}
 use Rattle.std.proofs.Math.Seq.{take-suc}
 use Rattle.std.proofs.lemmas.List.{drop_all, take_all, take-append-drop}
 use Rattle.std.proofs.lemmas.List.Elements.{All-head, All-tail}
@@ -15,7 +15,7 @@ use Rattle.npa_term.proofs.Induction.{Each}
 use Rattle.npa_rewrite.specs.declared.step.Outcome.{Outcome}
 use Rattle.npa_rewrite.specs.declared.step.Outcome.TheVariants.{Made, Normal}
 use Rattle.npa_rewrite.specs.declared.theory.Theory.{Theory}
-use Rattle.npa_rewrite.specs.Innermost.{innermost, innermost_row, first_or}
+use Rattle.npa_rewrite.specs.Innermost.{innermost, innermost_row}
 use Rattle.npa_rewrite.specs.Rewriting.{Rewrites, IsNormal}
 use Rattle.npa_rewrite.specs.Stepping.{IsRootStep, IsOutcome, IsRootOutcome, outcome_of}
 use Rattle.npa_rewrite.proofs.Parts.{root_rewrites}
@@ -24,20 +24,20 @@ use Rattle.npa_rewrite.proofs.Under.{canonical_in, rewrites_in, normal_app, norm
 -- the arguments after a step of the first that has one
 abbrev pub innermost_all : (Term → Option Term) → List Term → Option (List Term)
 innermost_all root [] = None
-innermost_all root (t ∷ ts) = first_or (option_map (λ u. u ∷ ts) (innermost root t)) (option_map (λ us. t ∷ us) (innermost_all root ts))
+innermost_all root (t ∷ ts) = option_or (option_map (λ u. u ∷ ts) (innermost root t)) (option_map (λ us. t ∷ us) (innermost_all root ts))
 
 row_is : {n : _} (root : Term → Option Term) (k : Row_of-Term n) → innermost_row root k ≡ innermost_all root (items-the_row-Term n k)
 row_is root end_of-Term = refl
 row_is root (more_of-Term t rest) =
-    ap (λ o. first_or (option_map (λ u. u ∷ items-the_row-Term _ rest) (innermost root t)) (option_map (λ us. t ∷ us) o)) (row_is root rest)
+    ap (λ o. option_or (option_map (λ u. u ∷ items-the_row-Term _ rest) (innermost root t)) (option_map (λ us. t ∷ us) o)) (row_is root rest)
 
 pub innermost_at : (root : Term → Option Term) (t : Term) (op : Op) (ts : List Term) → t ≡ App op ts →
-    innermost root t ≡ first_or (option_map (λ us. App op us) (innermost_all root ts)) (root t)
+    innermost root t ≡ option_or (option_map (λ us. App op us) (innermost_all root ts)) (root t)
 innermost_at root t op ts is =
     let k = hidden-the_row-Term-0 ts in
     ap (innermost root) is
-    ∙ ap (λ o. first_or (option_map (λ us. App op us) o) (root (App op ts))) (row_is root k ∙ ap (innermost_all root) (items_hidden-the_row-Term-0 ts))
-    ∙ ap (λ u. first_or (option_map (λ us. App op us) (innermost_all root ts)) (root u)) (sym is)
+    ∙ ap (λ o. option_or (option_map (λ us. App op us) o) (root (App op ts))) (row_is root k ∙ ap (innermost_all root) (items_hidden-the_row-Term-0 ts))
+    ∙ ap (λ u. option_or (option_map (λ us. App op us) (innermost_all root ts)) (root u)) (sym is)
 
 -- what an outcome tells
 pub made_is : (t u : Term) (o : Option Term) → Made u ≡ outcome_of t o → o ≡ Some u
@@ -64,10 +64,10 @@ pub value_here : (root : Term → Option Term) (t : Term) (op : Op) (ts : List T
 value_here root t op ts i a b us is small at rest e built =
     let here : innermost_all root (drop i ts) ≡ Some (b ∷ drop (i + 1) ts) =
     ap (innermost_all root) (middle ts i a small at)
-    ∙ ap (λ o. first_or (option_map (λ u. u ∷ drop (i + 1) ts) o) (option_map (λ us. a ∷ us) (innermost_all root (drop (i + 1) ts)))) e in
+    ∙ ap (λ o. option_or (option_map (λ u. u ∷ drop (i + 1) ts) o) (option_map (λ us. a ∷ us) (innermost_all root (drop (i + 1) ts)))) e in
     let all : innermost_all root ts ≡ Some (take i ts ++ b ∷ drop (i + 1) ts) = rest ∙ ap (option_map (λ us. take i ts ++ us)) here in
     let whole : innermost root t ≡ Some (App op (take i ts ++ b ∷ drop (i + 1) ts)) =
-    innermost_at root t op ts is ∙ ap (λ o. first_or (option_map (λ us. App op us) o) (root t)) all in
+    innermost_at root t op ts is ∙ ap (λ o. option_or (option_map (λ us. App op us) o) (root t)) all in
     ap (λ xs. Made (App op xs)) built ∙ sym (ap (outcome_of t) whole)
 
 moved : (ts : List Term) (i : ℕ) (a : Term) → i < length ts → a ≡ get_or ts i a → (o : Option (List Term)) →
@@ -83,7 +83,7 @@ pub value_later : (root : Term → Option Term) (ts : List Term) (i : ℕ) (a : 
 value_later root ts i a small at rest e =
     let there : innermost_all root (drop i ts) ≡ option_map (λ us. a ∷ us) (innermost_all root (drop (i + 1) ts)) =
     ap (innermost_all root) (middle ts i a small at)
-    ∙ ap (λ o. first_or (option_map (λ u. u ∷ drop (i + 1) ts) o) (option_map (λ us. a ∷ us) (innermost_all root (drop (i + 1) ts)))) e in
+    ∙ ap (λ o. option_or (option_map (λ u. u ∷ drop (i + 1) ts) o) (option_map (λ us. a ∷ us) (innermost_all root (drop (i + 1) ts)))) e in
     rest ∙ ap (option_map (λ us. take i ts ++ us)) there ∙ moved ts i a small at (innermost_all root (drop (i + 1) ts))
 
 -- a step of none of the arguments
@@ -91,7 +91,7 @@ pub value_root : (root : Term → Option Term) (t : Term) (op : Op) (ts : List T
     innermost_all root ts ≡ option_map (λ us. take i ts ++ us) (innermost_all root (drop i ts)) → innermost root t ≡ root t
 value_root root t op ts i is all rest =
     let none : innermost_all root ts ≡ None = rest ∙ ap (λ us. option_map (λ us. take i ts ++ us) (innermost_all root us)) (drop_all i ts all) in
-    innermost_at root t op ts is ∙ ap (λ o. first_or (option_map (λ us. App op us) o) (root t)) none
+    innermost_at root t op ts is ∙ ap (λ o. option_or (option_map (λ us. App op us) o) (root t)) none
 
 pub outcome_here : (th : Theory) (t : Term) (op : Op) (ts : List Term) (i : ℕ) (a b : Term) (us : List Term) → t ≡ App op ts → i < length ts → a ≡ get_or ts i a →
     Rewrites th a (canonical b) → us ≡ take i ts ++ b ∷ drop (i + 1) ts → Rewrites th t (canonical (App op us))

@@ -1,7 +1,7 @@
 -- The one step that is made of those that a term allows, and the normal form that is made of it: the
 -- leftmost innermost strategy (Baader, Nipkow 1998, on strategies).
 use Rattle.std.specs.Prelude.{◌≡◌, List, [], ◌∷◌, Option, Some, None, unwrap_or}
-use Rattle.std.specs.Option.{option_map}
+use Rattle.std.specs.Option.{option_map, option_or}
 use Rattle.npa_sorts.specs.Subsorts.{Subsorts}
 use Rattle.npa_term.specs.declared.term.Var.{Var as Variable}
 use Rattle.npa_term.specs.declared.term.Term.{Term, Row_of-Term, end_of-Term, more_of-Term, items-the_row-Term}
@@ -12,11 +12,6 @@ use Rattle.npa_match.specs.Branches.{branches, first_of}
 use Rattle.npa_sig.specs.declared.protocol.Equation.{Equation}
 use Rattle.npa_rewrite.specs.declared.theory.Theory.{Theory}
 
--- The first where there is one, and else the second.
-abbrev pub first_or : {A : Type 0} → Option A → Option A → Option A
-first_or (Some x) o = Some x
-first_or None o = o
-
 -- The first matcher of a term onto another, in the order of the search.
 abbrev pub matcher : Subsorts → Term → Term → Option (List (Variable × Term))
 matcher o t u = first_of (branches o ((t, u) ∷ []))
@@ -25,7 +20,7 @@ matcher o t u = first_of (branches o ((t, u) ∷ []))
 abbrev pub at_root : Subsorts → List Equation → Term → Option Term
 at_root o [] t = None
 at_root o (e ∷ es) t =
-    first_or (option_map (λ s. canonical (applied s e.right)) (matcher o e.left t)) (at_root o es t)
+    option_or (option_map (λ s. canonical (applied s e.right)) (matcher o e.left t)) (at_root o es t)
 
 abbrev mutual
   -- What a term becomes by a step at the first innermost place: the first argument that has one
@@ -34,12 +29,12 @@ abbrev mutual
   innermost root (Var v) = root (Var v)
   innermost root (Name n) = root (Name n)
   innermost root (App' op n args) =
-      first_or (option_map (λ us. App op us) (innermost_row root args)) (root (App' op n args))
+      option_or (option_map (λ us. App op us) (innermost_row root args)) (root (App' op n args))
 
   pub innermost_row : {n : _} → (Term → Option Term) → Row_of-Term n → Option (List Term)
   innermost_row root end_of-Term = None
   innermost_row root (more_of-Term t rest) =
-      first_or (option_map (λ u. u ∷ items-the_row-Term _ rest) (innermost root t))
+      option_or (option_map (λ u. u ∷ items-the_row-Term _ rest) (innermost root t))
       (option_map (λ us. t ∷ us) (innermost_row root rest))
 
 -- What a term becomes by one step on its canonical form, at the first innermost place in the order

@@ -1,5 +1,5 @@
 -- Rewriting modulo commutativity (Baader, Nipkow 1998; Escobar, Meadows, Meseguer 2009).
-use Rattle.std.specs.Prelude.{◌≡◌, ℕ, true, Some, slice_get, ◌≢◌, IsTrue, Contains, All, List, ◌∷◌, ◌++◌}
+use Rattle.std.specs.Prelude.{◌≡◌, ◌≢◌, IsTrue, Contains, All, List, ◌∷◌, ◌++◌}
 use Rattle.std.specs.declared.cmp.Ordering.TheVariants.{Greater}
 use Rattle.npa_sorts.specs.Subsorts.{Subsorts, IsAtOrBelow}
 use Rattle.npa_term.specs.declared.term.Op.{Op}
@@ -9,26 +9,24 @@ use Rattle.npa_term.specs.declared.term.Term.TheVariants.{Var, App}
 use Rattle.npa_term.specs.Bound.{applied}
 use Rattle.npa_term.specs.Canonical.{canonical}
 use Rattle.npa_term.specs.Order.{term_cmp}
+use Rattle.npa_term.specs.Parts.{image, least_sort}
 use Rattle.npa_term.specs.Same.{Same}
 use Rattle.npa_term.specs.Variables.{variables}
-use Rattle.npa_match.specs.Matching.{image, least_sort}
-use Rattle.npa_sig.specs.Signature.{Signature, is_pair}
 use Rattle.npa_sig.specs.Sorting.{well_sorted}
 use Rattle.npa_sig.specs.declared.protocol.Equation.{Equation}
-use Rattle.npa_sig.specs.declared.signature.OpDecl.{OpDecl}
 use Rattle.npa_rewrite.specs.declared.theory.Theory.{Theory}
 
 -- A substitution that has for each of these variables a term of a sort at or below the variable's
 -- (Goguen, Meseguer 1992, on order-sorted substitutions).
-abbrev pub RespectsSorts : Subsorts → List Variable → List (Variable × Term) → Type 0
-RespectsSorts o vs s =
+abbrev pub FitsSorts : Subsorts → List Variable → List (Variable × Term) → Type 0
+FitsSorts o vs s =
     (v : Variable) → Contains vs v → IsAtOrBelow o (least_sort (image s v)) v.sort
 
 -- The second term is the first with the instance of an equation's right side in the place of the
 -- instance of its left side, at some position.
 pub data Replaces (th : Theory) : Term → Term → Type 0 where
   here : (e : Equation) (s : List (Variable × Term)) → Contains th.equations e →
-      RespectsSorts th.sig.sorts (variables e.left) s →
+      FitsSorts th.sig.sorts (variables e.left) s →
       Replaces th (applied s e.left) (applied s e.right)
   inside : (op : Op) (before after : List Term) (t u : Term) → Replaces th t u →
       Replaces th (App op (before ++ t ∷ after)) (App op (before ++ u ∷ after))
@@ -84,9 +82,3 @@ pub record IsCancelling (o : Subsorts) (e : Equation) : Type 0 where
 -- A theory whose equations all cancel.
 abbrev pub AllCancel : Theory → Type 0
 AllCancel th = All (IsCancelling th.sig.sorts) th.equations
-
--- Each commutative operator takes two arguments of one sort.
-abbrev pub PairsCommute : Signature → Type 0
-PairsCommute sig =
-    (k : ℕ) (decl : OpDecl) → slice_get sig.ops k ≡ Some decl → decl.com ≡ true →
-    is_pair decl.args ≡ true

@@ -1,9 +1,8 @@
 -- What the functions that make steps promise each other.
-use Rattle.std.specs.Prelude.{◌≡◌, Bool, true, false, nat_eq, Contains, List, [], ◌∷◌, Option, Some, None}
+use Rattle.std.specs.Prelude.{◌≡◌, Contains, List, [], ◌∷◌, Option, Some, None}
 use Rattle.npa_sorts.specs.Subsorts.{Subsorts}
 use Rattle.npa_term.specs.declared.term.Var.{Var as Variable}
 use Rattle.npa_term.specs.declared.term.Term.{Term}
-use Rattle.npa_term.specs.declared.term.Term.TheVariants.{Var, Name, App'}
 use Rattle.npa_term.specs.Bound.{applied}
 use Rattle.npa_term.specs.Canonical.{canonical}
 use Rattle.npa_term.specs.Same.{Same}
@@ -13,13 +12,13 @@ use Rattle.npa_sig.specs.declared.protocol.Equation.{Equation}
 use Rattle.npa_rewrite.specs.declared.step.Outcome.{Outcome}
 use Rattle.npa_rewrite.specs.declared.step.Outcome.TheVariants.{Made, Normal}
 use Rattle.npa_rewrite.specs.declared.theory.Theory.{Theory}
-use Rattle.npa_rewrite.specs.Rewriting.{RespectsSorts, Rewrites, IsNormal}
+use Rattle.npa_rewrite.specs.Rewriting.{FitsSorts, Rewrites, IsNormal}
 
 -- No instance of an equation's left side equals the term.
 abbrev pub HasNoMatch : Theory → Term → Type 0
 HasNoMatch th t =
     (e : Equation) (s : List (Variable × Term)) → Contains th.equations e →
-    RespectsSorts th.sig.sorts (variables e.left) s → Same (applied s e.left) t → ⊥
+    FitsSorts th.sig.sorts (variables e.left) s → Same (applied s e.left) t → ⊥
 
 -- What a term becomes at its root: the canonical instance of the right side of an equation whose
 -- left side a matcher sends to the term.
@@ -29,16 +28,6 @@ pub record IsRootStep (th : Theory) (t u : Term) : Type 0 where
   pub listed : Contains th.equations equation
   pub matches : IsMatcher th.sig.sorts ((equation.left, t) ∷ []) matcher
   pub form : u ≡ canonical (applied matcher equation.right)
-
--- Whether the heads of two terms don't keep the first from matching the second.
-abbrev pub heads_agree : Term → Term → Bool
-heads_agree (Var v) u = true
-heads_agree (Name m) (Var w) = false
-heads_agree (Name m) (Name n) = true
-heads_agree (Name m) (App' g k us) = false
-heads_agree (App' f j ts) (Var w) = false
-heads_agree (App' f j ts) (Name n) = false
-heads_agree (App' f j ts) (App' g k us) = nat_eq f.num g.num
 
 -- No substitution matches the first term onto the second.
 abbrev pub AreUnmatched : Subsorts → Term → Term → Type 0

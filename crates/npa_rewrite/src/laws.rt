@@ -9,15 +9,16 @@ ghost use Rattle.npa_term.specs.declared.term.Var.{Var as Variable};
 ghost use Rattle.npa_term.specs.Agreeing.{Agrees};
 ghost use Rattle.npa_term.specs.Bound.{applied};
 ghost use Rattle.npa_term.specs.Canonical.{canonical};
+ghost use Rattle.npa_term.specs.Parts.{IsPart, image, least_sort};
 ghost use Rattle.npa_term.specs.Same.{Same};
 ghost use Rattle.npa_term.specs.Symbols.{symbol_count};
 ghost use Rattle.npa_term.specs.Variables.{IsGround, variables};
-ghost use Rattle.npa_match.specs.Matching.{IsPart, image, least_sort};
 ghost use Rattle.npa_sig.specs.Signature.{Signature, first_op_fault};
 ghost use Rattle.npa_sig.specs.Sorting.{well_sorted};
 ghost use Rattle.npa_rewrite.specs.declared.theory.Theory.{Theory};
 ghost use Rattle.npa_rewrite.specs.Innermost.{Reductions, normalized};
-ghost use Rattle.npa_rewrite.specs.Rewriting.{AllCancel, GivesNormalForms, IsConvergent, IsLeastNormalForm, IsNormal, IsNormalFormOf, PairsCommute, Rewrites, Steps};
+ghost use Rattle.npa_rewrite.specs.Rewriting.{AllCancel, GivesNormalForms, IsConvergent, IsLeastNormalForm, IsNormal, IsNormalFormOf, Rewrites, Steps};
+ghost use Rattle.npa_sig.specs.Operators.{PairsCommute};
 
 /// Terms that are equal modulo commutativity make the same steps, a step of an argument is one of
 /// the application, and what a step makes is canonical. Where all equations cancel, it is smaller

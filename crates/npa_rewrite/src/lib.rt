@@ -11,6 +11,3 @@ pub use cancelling::{all_cancel, is_cancelling};
 pub use laws::{convergence_laws, normal_laws, normalizing_laws, signature_laws, step_laws};
 pub use reduction::{is_normal, normal_form, reduce};
 pub use theory::Theory;
-
-#[cfg(test)]
-mod tests;

@@ -1,11 +1,11 @@
-ghost use Rattle.std.specs.Prelude.{◌≡◌, ◌↔◌, ℕ, None, IsTrue, IfOk, IfSome};
+ghost use Rattle.std.specs.Prelude.{◌≡◌, ◌↔◌, ℕ, None, false, All, IsTrue, IfOk, IfSome};
 ghost use Rattle.npa_term.specs.declared.term.Op.{Op};
 ghost use Rattle.npa_term.specs.Agreeing.{Agrees};
 ghost use Rattle.npa_term.specs.Canonical.{canonical};
 ghost use Rattle.npa_rewrite.specs.Innermost.{Reductions, normalized, reduced};
 ghost use Rattle.npa_rewrite.specs.Rewriting.{AllCancel, IsNormal, Rewrites, Steps};
 
-use crate::step::{Outcome, root_step, step};
+use crate::step::{Outcome, has_no_match, root_step, step};
 use crate::theory::Theory;
 use npa_term::{NoMemory, Term, canon, sort_arguments};
 use std::alloc::Global;
@@ -27,14 +27,34 @@ pub fn reduce(alloc: Global, th: &Theory, t: &Term) -> Result<Option<Term>, NoMe
 }
 
 /// Whether the term rewrites to nothing: no equation matches it or a part of it, modulo
-/// commutativity.
+/// commutativity. It copies nothing.
+#[cycle(normal)]
 pub fn is_normal(alloc: Global, th: &Theory, t: &Term) -> Result<bool, NoMemory>
     ensures { IfOk result (λ normal. IsTrue normal ↔ IsNormal th.now t.now) }
 {
-    match step(alloc, th, t)? {
-        Outcome::Made(_) => Ok(false),
-        Outcome::Normal(_) => Ok(true),
+    match t {
+        Term::App(_, args) => {
+            if !are_normal(alloc, th, args.as_slice())? {
+                return Ok(false);
+            }
+            has_no_match(alloc, th, t)
+        }
+        _ => has_no_match(alloc, th, t),
     }
+}
+
+// Whether all of these terms are normal.
+#[cycle(normal)]
+fn are_normal(alloc: Global, th: &Theory, ts: &[Term]) -> Result<bool, NoMemory>
+    ensures all { IfOk result (λ b. IsTrue b → All (IsNormal th.now) ts.now) }
+    ensures some { IfOk result (λ b. b ≡ false → All (IsNormal th.now) ts.now → ⊥) }
+{
+    for t in ts {
+        if !is_normal(alloc, th, t)? {
+            return Ok(false);
+        }
+    }
+    Ok(true)
 }
 
 /// A normal form of the term: canonical, normal, and reached from the canonical form by steps. Where

@@ -1,11 +1,11 @@
-ghost use Rattle.std.specs.Prelude.{◌≡◌, [], ◌∷◌, ◌++◌, None, IfOk, OnOk, IfSome};
-ghost use Rattle.npa_match.specs.Matching.{IsMatcher};
+ghost use Rattle.std.specs.Prelude.{◌≡◌, [], ◌∷◌, ◌++◌, None, false, IfOk, OnOk, IfSome, IsTrue};
+ghost use Rattle.npa_match.specs.Matching.{HasMatcher, IsMatcher};
 ghost use Rattle.npa_rewrite.specs.Innermost.{at_root, innermost, matcher};
-ghost use Rattle.npa_rewrite.specs.Stepping.{AreUnmatched, IsOutcome, IsRootOutcome, heads_agree, outcome_of};
+ghost use Rattle.npa_rewrite.specs.Stepping.{AreUnmatched, HasNoMatch, IsOutcome, IsRootOutcome, IsRootStep, outcome_of};
 
 use crate::theory::Theory;
 use npa_list::List;
-use npa_match::find;
+use npa_match::{find_match, has_match};
 use npa_sorts::Sorts;
 use npa_term::{NoMemory, Subst, Term, copy, instance};
 use std::alloc::Global;
@@ -51,51 +51,55 @@ pub(crate) fn root_step(alloc: Global, th: &Theory, t: Term) -> Result<Outcome, 
         ≡ outcome_of t (at_root th.now.sig.sorts th.now.equations t)) }
     ensures outcome { IfOk result (λ step. IsRootOutcome th.now t step) }
 {
-    let mut subject = t;
+    match first_step(alloc, th, &t)? {
+        Some(next) => Ok(Outcome::Made(next)),
+        None => Ok(Outcome::Normal(t)),
+    }
+}
+
+// What a term becomes by the first equation whose left side matches it, where there is one.
+fn first_step(alloc: Global, th: &Theory, t: &Term) -> Result<Option<Term>, NoMemory>
+    ensures value { IfOk result (λ next. next ≡ at_root th.now.sig.sorts th.now.equations t.now) }
+    ensures step { IfOk result (λ next. IfSome next (IsRootStep th.now t.now)) }
+    ensures none { IfOk result (λ next. next ≡ None → HasNoMatch th.now t.now) }
+{
     for equation in th.equations.as_slice() {
-        let (back, found) = matched(alloc, th.sig.sorts(), &equation.left, subject)?;
-        if let Some(s) = found {
-            return Ok(Outcome::Made(instance(alloc, &s, &equation.right)?));
+        if let Some(s) = matched(alloc, th.sig.sorts(), &equation.left, t)? {
+            return Ok(Some(instance(alloc, &s, &equation.right)?));
         }
-        subject = back;
     }
-    Ok(Outcome::Normal(subject))
+    Ok(None)
 }
 
-// Matches a left side onto a term, which it gives back.
-fn matched(
-    alloc: Global,
-    sorts: &Sorts,
-    left: &Term,
-    t: Term,
-) -> Result<(Term, Option<Subst>), NoMemory>
-    ensures back { IfOk result (λ r. r.0 ≡ t) }
-    ensures matcher { IfOk result (λ r. IfSome r.1 (IsMatcher sorts.now ((left.now, t) ∷ []))) }
-    ensures none { IfOk result (λ r. r.1 ≡ None → AreUnmatched sorts.now left.now t) }
-    ensures order { IfOk result (λ r. r.1 ≡ matcher sorts.now left.now t) }
+// Matches a left side onto a term, both where they lie.
+fn matched(alloc: Global, sorts: &Sorts, left: &Term, t: &Term) -> Result<Option<Subst>, NoMemory>
+    ensures matcher { IfOk result (λ found. IfSome found (IsMatcher sorts.now ((left.now, t.now) ∷ []))) }
+    ensures none { IfOk result (λ found. found ≡ None → AreUnmatched sorts.now left.now t.now) }
+    ensures order { IfOk result (λ found. found ≡ matcher sorts.now left.now t.now) }
 {
-    if !heads_agree(left, &t) {
-        return Ok((t, None));
-    }
-    let mut pairs = List::new(alloc);
-    pairs.push((copy(alloc, left)?, t))?;
-    let found = find(alloc, sorts, &pairs)?;
-    match pairs.pop() {
-        Some((_, back)) => Ok((back, found)),
-        None => unreachable!(),
-    }
+    find_match(alloc, sorts, &[(left, t)])
 }
 
-// Whether the heads of a left side and a term allow a match.
-fn heads_agree(left: &Term, t: &Term) -> bool
-    ensures { result ≡ heads_agree left.now t.now }
+/// Whether no equation's left side matches the term itself. It copies nothing.
+pub(crate) fn has_no_match(alloc: Global, th: &Theory, t: &Term) -> Result<bool, NoMemory>
+    ensures none { IfOk result (λ none. IsTrue none → HasNoMatch th.now t.now) }
+    ensures some { IfOk result (λ none. none ≡ false → HasNoMatch th.now t.now → ⊥) }
 {
-    match (left, t) {
-        (Term::Var(_), _) => true,
-        (Term::Name(_), Term::Name(_)) => true,
-        (Term::App(f, _), Term::App(g, _)) => f.num == g.num,
-        _ => false,
+    for equation in th.equations.as_slice() {
+        if is_matched(alloc, th.sig.sorts(), &equation.left, t)? {
+            return Ok(false);
+        }
     }
+    Ok(true)
+}
+
+// Whether a left side matches a term.
+fn is_matched(alloc: Global, sorts: &Sorts, left: &Term, t: &Term) -> Result<bool, NoMemory>
+    ensures matched { IfOk result (λ b. IsTrue b
+        → HasMatcher sorts.now ((left.now, t.now) ∷ [])) }
+    ensures none { IfOk result (λ b. b ≡ false → AreUnmatched sorts.now left.now t.now) }
+{
+    has_match(alloc, sorts, &[(left, t)])
 }
 
 // Adds copies of the terms.

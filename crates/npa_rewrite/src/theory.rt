@@ -1,4 +1,5 @@
 ghost use Rattle.std.specs.Prelude.{◌≡◌, IfOk};
+ghost use Rattle.npa_rewrite.specs.Theories.{theory_of};
 
 use npa_sig::{Equations, Protocol, Sig, copy_equations};
 use npa_term::NoMemory;
@@ -16,6 +17,7 @@ impl Theory {
     /// The theory of a protocol: copies of its signature and its equations. It takes memory for
     /// both.
     pub fn of(alloc: Global, protocol: &Protocol) -> Result<Theory, NoMemory>
+        ensures theory { IfOk result (λ th. th ≡ theory_of protocol.now) }
         ensures sig { IfOk result (λ th. th.sig ≡ protocol.now.sig) }
         ensures equations { IfOk result (λ th. th.equations ≡ protocol.now.equations) }
     {

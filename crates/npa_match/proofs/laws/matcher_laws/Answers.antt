@@ -2,7 +2,8 @@ use Rattle.std.proofs.Common.{◌≡◌}
 use Rattle.npa_term.specs.Agreeing.{Agrees}
 use Rattle.npa_term.specs.Canonical.{canonical}
 use Rattle.npa_term.specs.Variables.{IsGround}
-use Rattle.npa_match.proofs.Parts.{matched_forms, part_agrees, part_canonical, part_ground, value_has}
+use Rattle.npa_term.proofs.Parts.{part_agrees, part_canonical, part_ground}
+use Rattle.npa_match.proofs.Parts.{matched_forms, value_has}
 use Rattle.npa_match.proofs.laws.matcher_laws.Goals as goal
 
 pub returns-clause-canonical : goal.returns-clause-canonical

@@ -1,4 +1,4 @@
-use Rattle.npa_match.proofs.Parts.{part_canonical, part_ground, part_agrees}
+use Rattle.npa_term.proofs.Parts.{part_canonical, part_ground, part_agrees}
 use Rattle.npa_match.proofs.laws.part_laws.Goals as goal
 
 pub returns-clause-canonical : goal.returns-clause-canonical

@@ -1,5 +1,5 @@
 use Rattle.npa_sorts.proofs.Climbs.{decides}
-use Rattle.npa_match.proofs.Equality.{is_same_exact}
+use Rattle.npa_term.proofs.Equality.{is_same_exact}
 use Rattle.npa_match.proofs.laws.test_laws.Goals as goal
 
 pub returns-clause-same : goal.returns-clause-same

@@ -1,6 +1,7 @@
-use Rattle.std.proofs.Common.{◌≡◌, ◌<◌, length, true, false, sym, ◌∙◌, ap, arith}
+use Rattle.std.proofs.Common.{◌≡◌, ◌<◌, length, sym, ◌∙◌, ap, arith}
 use Rattle.npa_term.specs.declared.term.Term.{App}
-use Rattle.npa_match.specs.Search.{ends_of, outcome_ends, outcome_work, work, goal_pairs, bound_pairs, pairs_of, pair_symbols, IsFork}
+use Rattle.npa_match.specs.Search.{ends_of, outcome_ends, outcome_work, work, goal_pairs, pairs_of, pair_symbols, IsFork}
+use Rattle.npa_match.specs.Matching.{bound_pairs}
 use Rattle.npa_match.proofs.Going.{fails, other_term, other_arguments, goes_on, fork_ends, fork_work, pushed_fewer, on_ok}
 use Rattle.npa_match.proofs.search.advance.Goals as goal
 

@@ -1,6 +1,7 @@
 use Rattle.std.proofs.Common.{◌≡◌, ◌≤◌}
 use Rattle.npa_match.specs.Branches.{after_pairs}
-use Rattle.npa_match.specs.Search.{goal_pairs, bound_pairs, pair_symbols}
+use Rattle.npa_match.specs.Search.{goal_pairs, pair_symbols}
+use Rattle.npa_match.specs.Matching.{bound_pairs}
 use Rattle.npa_match.proofs.search.advance.Given as goal
 
 abbrev pub invariant-loop-t : goal.invariant-loop-t

@@ -1,6 +1,6 @@
 use Rattle.std.proofs.Common.{sym, ◌∙◌, ap}
 use Rattle.npa_term.specs.declared.term.Term.{App}
-use Rattle.npa_match.proofs.Equality.{op_equal}
+use Rattle.npa_term.proofs.Equality.{op_equal}
 use Rattle.npa_match.proofs.search.arguments.Goals as goal
 
 pub returns-then-eq : goal.returns-then-eq

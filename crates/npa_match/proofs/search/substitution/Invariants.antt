@@ -1,5 +1,5 @@
 use Rattle.std.proofs.Common.{◌≡◌, take}
-use Rattle.npa_match.specs.Search.{bound_pairs}
+use Rattle.npa_match.specs.Matching.{bound_pairs}
 use Rattle.npa_match.proofs.search.substitution.Given as goal
 
 abbrev pub invariant-loop-v : goal.invariant-loop-v

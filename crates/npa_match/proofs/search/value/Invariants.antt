@@ -1,6 +1,6 @@
 use Rattle.std.proofs.Common.{◌≡◌, drop}
 use Rattle.npa_term.specs.Bound.{value_of}
-use Rattle.npa_match.specs.Search.{bound_pairs}
+use Rattle.npa_match.specs.Matching.{bound_pairs}
 use Rattle.npa_match.proofs.search.value.Given as goal
 
 abbrev pub invariant-loop-w : goal.invariant-loop-w
