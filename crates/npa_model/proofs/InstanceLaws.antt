@@ -1,6 +1,6 @@
 -- The faults of instances are found exactly where instances are none.
 use Rattle.std.proofs.Common.{◌≡◌, ℕ, zero, suc, ◌+◌, Bool, true, false, ◌==◌, ◌↔◌, List, [], ◌∷◌, ◌++◌, Option, None, Some, refl, ap, sym, ◌∙◌, subst, map, length, cond, slice_get, nat_eq, Contains, ⊎_elim, arith}
-use Rattle.std.specs.Option.{option_map}
+use Rattle.std.specs.Option.{option_map, option_or}
 use Rattle.std.specs.List.{list_any}
 use Rattle.std.proofs.lemmas.Bool.{and_parts, and_from, or_parts, or_from, eqb-true, eqb-false, eq-eqb, ne_eqb}
 use Rattle.std.proofs.lemmas.Option.{same_Some}
@@ -10,44 +10,46 @@ use Rattle.npa_term.specs.declared.term.Term.{Term}
 use Rattle.npa_term.specs.Canonical.{canonical}
 use Rattle.npa_sig.specs.declared.protocol.Strand.{Strand}
 use Rattle.npa_sig.specs.Signature.{Signature}
-use Rattle.npa_sig.specs.Sorting.{sort_of, is_below, all_below}
+use Rattle.npa_sig.specs.Sorting.{is_below, all_below}
+use Rattle.npa_term.specs.Parts.{least_sort}
+use Rattle.npa_term.proofs.Parts.{only_member}
 use Rattle.npa_model.specs.declared.run.Instance.{Instance}
 use Rattle.npa_model.specs.declared.run.Cause.{Cause}
 use Rattle.npa_model.specs.declared.run.Cause.TheVariants as cause
-use Rattle.npa_model.specs.Normal.{is_normal_by}
-use Rattle.npa_model.specs.Instances.{param_sorts, AreInstances, AreGroundTerms, AreApart, fresh_names, sort_fault, normal_fault, strand_fault, instance_fault, or_else, first_fault, first_again, start_fault}
-use Rattle.npa_rewrite.proofs.Parts.{only_member}
-use Rattle.npa_model.proofs.Normality.{normal_is, is_normal_own}
+use Rattle.npa_rewrite.specs.Normal.{is_normal_by}
+use Rattle.npa_model.specs.Instances.{AreInstances, AreGroundTerms, AreApart, fresh_names, sort_fault, normal_fault, strand_fault, instance_fault, first_fault, first_again, start_fault}
+use Rattle.npa_sig.specs.Parameters.{param_sorts}
+use Rattle.npa_rewrite.proofs.Normality.{normal_is, is_normal_own}
 
 cond_none : (b : Bool) (o : Option Cause) (c : Cause) → cond b o (Some c) ≡ None → (b ≡ true) × (o ≡ None)
 cond_none true o c e = (refl, e)
 cond_none false o c e = cc
 
-both_none : (o p : Option Cause) → or_else o p ≡ None → (o ≡ None) × (p ≡ None)
+both_none : (o p : Option Cause) → option_or o p ≡ None → (o ≡ None) × (p ≡ None)
 both_none None p e = (refl, e)
 both_none (Some c) p e = cc
 
 module _ (nf : Term → Term) (sig : Signature) (strands : List Strand) where
-  are_below : (k p : ℕ) (args : List Term) (sorts : List ℕ) → length args ≡ length sorts → sort_fault sig k p args sorts ≡ None → all_below sig (map sort_of args) sorts ≡ true
+  are_below : (k p : ℕ) (args : List Term) (sorts : List ℕ) → length args ≡ length sorts → sort_fault sig k p args sorts ≡ None → all_below sig (map least_sort args) sorts ≡ true
   are_below k p [] [] l e = refl
   are_below k p [] (s ∷ sorts) l e = absurd (omega arith)
   are_below k p (t ∷ args) [] l e = absurd (omega arith)
   are_below k p (t ∷ args) (s ∷ sorts) l e =
-      let both = cond_none (is_below sig (sort_of t) s) (sort_fault sig k (p + 1) args sorts) (cause.Sort k p) e in
-      and_from (is_below sig (sort_of t) s) (all_below sig (map sort_of args) sorts) both.0 (are_below k (p + 1) args sorts (omega arith) both.1)
+      let both = cond_none (is_below sig (least_sort t) s) (sort_fault sig k (p + 1) args sorts) (cause.Sort k p) e in
+      and_from (is_below sig (least_sort t) s) (all_below sig (map least_sort args) sorts) both.0 (are_below k (p + 1) args sorts (omega arith) both.1)
 
-  pub are_even : (args : List Term) (sorts : List ℕ) → all_below sig (map sort_of args) sorts ≡ true → length args ≡ length sorts
+  pub are_even : (args : List Term) (sorts : List ℕ) → all_below sig (map least_sort args) sorts ≡ true → length args ≡ length sorts
   are_even [] [] e = refl
   are_even [] (s ∷ sorts) e = cc
   are_even (t ∷ args) [] e = cc
-  are_even (t ∷ args) (s ∷ sorts) e = ap (λ n. suc n) (are_even args sorts (and_parts (is_below sig (sort_of t) s) (all_below sig (map sort_of args) sorts) e).1)
+  are_even (t ∷ args) (s ∷ sorts) e = ap (λ n. suc n) (are_even args sorts (and_parts (is_below sig (least_sort t) s) (all_below sig (map least_sort args) sorts) e).1)
 
-  no_sort_fault : (k p : ℕ) (args : List Term) (sorts : List ℕ) → all_below sig (map sort_of args) sorts ≡ true → sort_fault sig k p args sorts ≡ None
+  no_sort_fault : (k p : ℕ) (args : List Term) (sorts : List ℕ) → all_below sig (map least_sort args) sorts ≡ true → sort_fault sig k p args sorts ≡ None
   no_sort_fault k p [] [] e = refl
   no_sort_fault k p [] (s ∷ sorts) e = cc
   no_sort_fault k p (t ∷ args) [] e = cc
   no_sort_fault k p (t ∷ args) (s ∷ sorts) e =
-      let both = and_parts (is_below sig (sort_of t) s) (all_below sig (map sort_of args) sorts) e in
+      let both = and_parts (is_below sig (least_sort t) s) (all_below sig (map least_sort args) sorts) e in
       ap (λ b. cond b (sort_fault sig k (p + 1) args sorts) (Some (cause.Sort k p))) both.0 ∙ no_sort_fault k (p + 1) args sorts both.1
 
   are_normal : (k p : ℕ) (args : List Term) → normal_fault nf k p args ≡ None → (t : Term) → Contains args t → nf t ≡ canonical t
@@ -66,7 +68,7 @@ module _ (nf : Term → Term) (sig : Signature) (strands : List Strand) where
   record Fits (instance : Instance) : Type 0 where
     strand : Strand
     there : slice_get strands instance.strand ≡ Some strand
-    sorts : all_below sig (map sort_of instance.args) (param_sorts strand) ≡ true
+    sorts : all_below sig (map least_sort instance.args) (param_sorts strand) ≡ true
     normal : (t : Term) → Contains instance.args t → nf t ≡ canonical t
 
   fits : (k : ℕ) (instance : Instance) → instance_fault nf sig strands k instance ≡ None → Fits instance
@@ -75,7 +77,7 @@ module _ (nf : Term → Term) (sig : Signature) (strands : List Strand) where
       by : (o : Option Strand) → slice_get strands instance.strand ≡ o → strand_fault nf sig k o instance.args ≡ None → Fits instance
       by None at f = cc
       by (Some strand) at f =
-          let even = cond_none (length instance.args == length (param_sorts strand)) (or_else (sort_fault sig k 0 instance.args (param_sorts strand)) (normal_fault nf k 0 instance.args)) (cause.Params k) f in
+          let even = cond_none (length instance.args == length (param_sorts strand)) (option_or (sort_fault sig k 0 instance.args (param_sorts strand)) (normal_fault nf k 0 instance.args)) (cause.Params k) f in
           let both = both_none (sort_fault sig k 0 instance.args (param_sorts strand)) (normal_fault nf k 0 instance.args) even.1 in
           record {
             strand = strand;
@@ -88,8 +90,8 @@ module _ (nf : Term → Term) (sig : Signature) (strands : List Strand) where
   no_instance_fault k instance f =
       let params : List ℕ = param_sorts f.strand in
       ap (λ (o : Option Strand). strand_fault nf sig k o instance.args) f.there
-      ∙ ap (λ b. cond b (or_else (sort_fault sig k 0 instance.args params) (normal_fault nf k 0 instance.args)) (Some (cause.Params k))) (eq-eqb (length instance.args) (length params) (are_even instance.args params f.sorts))
-      ∙ ap (λ o. or_else o (normal_fault nf k 0 instance.args)) (no_sort_fault k 0 instance.args params f.sorts)
+      ∙ ap (λ b. cond b (option_or (sort_fault sig k 0 instance.args params) (normal_fault nf k 0 instance.args)) (Some (cause.Params k))) (eq-eqb (length instance.args) (length params) (are_even instance.args params f.sorts))
+      ∙ ap (λ o. option_or o (normal_fault nf k 0 instance.args)) (no_sort_fault k 0 instance.args params f.sorts)
       ∙ no_normal_fault k 0 instance.args f.normal
 
   each_fits : (k : ℕ) (instances : List Instance) → first_fault nf sig strands k instances ≡ None → (n : ℕ) (instance : Instance) → slice_get instances n ≡ Some instance → Fits instance
@@ -102,7 +104,7 @@ module _ (nf : Term → Term) (sig : Signature) (strands : List Strand) where
   no_fault : (k : ℕ) (instances : List Instance) → ((n : ℕ) (instance : Instance) → slice_get instances n ≡ Some instance → Fits instance) → first_fault nf sig strands k instances ≡ None
   no_fault k [] each = refl
   no_fault k (i ∷ is) each =
-      ap (λ o. or_else o (first_fault nf sig strands (k + 1) is)) (no_instance_fault k i (each 0 i refl)) ∙ no_fault (k + 1) is (λ n. each (suc n))
+      ap (λ o. option_or o (first_fault nf sig strands (k + 1) is)) (no_instance_fault k i (each 0 i refl)) ∙ no_fault (k + 1) is (λ n. each (suc n))
 
 -- none of the names was seen
 abbrev AreNew : List ℕ → List ℕ → Type 0
@@ -166,7 +168,7 @@ module _ (nf : Term → Term) (sig : Signature) (strands : List Strand) (instanc
   -- instances have no fault
   pub instances_start : AreInstances nf sig strands instances → start_fault nf sig strands instances ≡ None
   instances_start are =
-      ap (λ o. or_else o (option_map cause.Twice (first_again [] (fresh_names strands instances))))
+      ap (λ o. option_or o (option_map cause.Twice (first_again [] (fresh_names strands instances))))
       (no_fault nf sig strands 0 instances (λ n instance at. let is = are.each n instance at in record { strand = is.strand; there = is.there; sorts = is.sorts; normal = λ t has. (is.normal t has).normal }))
       ∙ ap (option_map cause.Twice) ((apart_exactly (fresh_names strands instances)).0 are.apart)
 

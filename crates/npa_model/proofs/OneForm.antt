@@ -1,10 +1,11 @@
 -- Functions that have the same normal forms of ground terms make the same runs, which reach the same
 -- aims.
 use Rattle.std.proofs.Common.{◌≡◌, ℕ, zero, suc, ◌+◌, ◌==◌, List, [], ◌∷◌, ◌++◌, Option, None, Some, Result, Ok, Err, map, length, take, slice_get, cond, Contains, refl, ap, sym, ◌∙◌, subst, arith}
-use Rattle.std.specs.Option.{option_map}
+use Rattle.std.specs.Option.{option_map, option_or}
 use Rattle.std.proofs.lemmas.List.Elements.{Contains-append_left, Contains-append_right}
 use Rattle.npa_term.specs.declared.term.Term.{Term}
 use Rattle.npa_term.specs.Canonical.{canonical}
+use Rattle.npa_term.specs.Computed.{equal}
 use Rattle.npa_sig.specs.declared.protocol.Event.{Event}
 use Rattle.npa_sig.specs.declared.protocol.Strand.{Strand}
 use Rattle.npa_sig.specs.declared.protocol.Protocol.{Protocol}
@@ -16,14 +17,17 @@ use Rattle.npa_model.specs.declared.run.Cause.{Cause}
 use Rattle.npa_model.specs.declared.run.Cause.TheVariants as cause
 use Rattle.npa_model.specs.declared.run.Instance.{Instance}
 use Rattle.npa_model.specs.declared.run.Run.{Run}
-use Rattle.npa_model.specs.Values.{under}
-use Rattle.npa_model.specs.Normal.{equal, is_normal_by}
+use Rattle.npa_sig.specs.Values.{under}
+use Rattle.npa_rewrite.specs.Normal.{is_normal_by, IsNormalTerm}
 use Rattle.npa_model.specs.Runs.{Happens, no_instance, ended, unsent, receives, sends, Next, Executes, begin, step, BreaksAt}
-use Rattle.npa_model.specs.Instances.{param_sorts, IsGroundTerm, IsNormalTerm, IsInstance, AreInstances, AreGroundTerms, fresh_names, sort_fault, normal_fault, strand_fault, instance_fault, first_fault, first_again, start_fault, or_else}
+use Rattle.npa_model.specs.Instances.{IsInstance, AreInstances, AreGroundTerms, fresh_names, sort_fault, normal_fault, strand_fault, instance_fault, first_fault, first_again, start_fault}
+use Rattle.npa_sig.specs.Parameters.{param_sorts}
+use Rattle.npa_sig.specs.Sorting.{IsGroundTerm}
 use Rattle.npa_model.specs.Aims.{Assigns, Plays, Meets, nothing, known, strand, MeetsSomehow, IsRun, Reaches, Misses, Breaks, at_start, at_step}
-use Rattle.npa_model.specs.WellFormed.{AreWellFormedStrands, IsTermOver, IsWellFormedPart, IsWellFormedAim, IsWellFormedProtocol}
+use Rattle.npa_model.specs.WellFormed.{IsWellFormedPart, IsWellFormedAim}
+use Rattle.npa_sig.specs.WellFormed.{AreWellFormedStrands, IsTermOver, IsWellFormedProtocol}
 use Rattle.npa_model.proofs.SentTerms.{message_ground}
-use Rattle.npa_model.proofs.SortedTerms.{under_ground}
+use Rattle.npa_sig.proofs.SortedTerms.{under_ground}
 
 taken_member : {A : Type 0} (k : ℕ) (xs : List A) (x : A) → Contains (take k xs) x → Contains xs x
 taken_member zero xs x h = absurd (omega (arith, h.1))
@@ -32,7 +36,7 @@ taken_member (suc k) (y ∷ xs) x (zero, small, same) = (zero, omega arith, same
 taken_member (suc k) (y ∷ xs) x (suc i, small, same) =
     Contains-append_right (y ∷ []) xs x (taken_member k xs x (i, omega (arith, small), same))
 
-abbrev SameForms : Signature → (Term → Term) → (Term → Term) → Type 0
+abbrev pub SameForms : Signature → (Term → Term) → (Term → Term) → Type 0
 SameForms sig nf mf = (t : Term) → IsGroundTerm sig t → nf t ≡ mf t
 
 module _ (sig : Signature) (nf mf : Term → Term) (same : SameForms sig nf mf) where
@@ -54,16 +58,16 @@ module _ (sig : Signature) (nf mf : Term → Term) (same : SameForms sig nf mf) 
   same_strand_fault : (k : ℕ) (o : Option Strand) (args : List Term) → ((t : Term) → Contains args t → IsGroundTerm sig t) → strand_fault nf sig k o args ≡ strand_fault mf sig k o args
   same_strand_fault k None args ground = refl
   same_strand_fault k (Some named) args ground =
-      ap (λ o. cond (length args == length (param_sorts named)) (or_else (sort_fault sig k 0 args (param_sorts named)) o) (Some (cause.Params k))) (same_normal_fault k 0 args ground)
+      ap (λ o. cond (length args == length (param_sorts named)) (option_or (sort_fault sig k 0 args (param_sorts named)) o) (Some (cause.Params k))) (same_normal_fault k 0 args ground)
 
   same_first_fault : (strands : List Strand) (k : ℕ) (is : List Instance) → AreGroundTerms sig is → first_fault nf sig strands k is ≡ first_fault mf sig strands k is
   same_first_fault strands k [] ground = refl
   same_first_fault strands k (i ∷ is) ground =
-      ap (λ o. or_else o (first_fault nf sig strands (k + 1) is)) (same_strand_fault k (slice_get strands i.strand) i.args (ground 0 i refl))
-      ∙ ap (λ o. or_else (instance_fault mf sig strands k i) o) (same_first_fault strands (k + 1) is (λ n. ground (suc n)))
+      ap (λ o. option_or o (first_fault nf sig strands (k + 1) is)) (same_strand_fault k (slice_get strands i.strand) i.args (ground 0 i refl))
+      ∙ ap (λ o. option_or (instance_fault mf sig strands k i) o) (same_first_fault strands (k + 1) is (λ n. ground (suc n)))
 
-  same_start_fault : (strands : List Strand) (is : List Instance) → AreGroundTerms sig is → start_fault nf sig strands is ≡ start_fault mf sig strands is
-  same_start_fault strands is ground = ap (λ o. or_else o (option_map cause.Twice (first_again [] (fresh_names strands is)))) (same_first_fault strands 0 is ground)
+  pub same_start_fault : (strands : List Strand) (is : List Instance) → AreGroundTerms sig is → start_fault nf sig strands is ≡ start_fault mf sig strands is
+  same_start_fault strands is ground = ap (λ o. option_or o (option_map cause.Twice (first_again [] (fresh_names strands is)))) (same_first_fault strands 0 is ground)
 
   module _ (strands : List Strand) (formed : AreWellFormedStrands sig strands) (instances : List Instance)
       (are : (k : ℕ) (instance : Instance) → slice_get instances k ≡ Some instance → IsInstance nf sig strands instance) where
@@ -73,7 +77,7 @@ module _ (sig : Signature) (nf mf : Term → Term) (same : SameForms sig nf mf) 
     same_message : (done i : ℕ) (a : Instance) (e : Event) → Next nf strands instances done i a e → nf (under a.args e.msg) ≡ mf (under a.args e.msg)
     same_message done i a e n = same (under a.args e.msg) (message_ground nf sig strands formed instances are i done a e n)
 
-    happens : {done i : ℕ} {sent : List Term} {r : Result (List Term) Cause} → Happens nf strands instances done sent i r → Happens mf strands instances done sent i r
+    pub happens : {done i : ℕ} {sent : List Term} {r : Result (List Term) Cause} → Happens nf strands instances done sent i r → Happens mf strands instances done sent i r
     happens (no_instance e) = no_instance e
     happens (ended a e f) = ended a e f
     happens {done} {i} {sent} (unsent a e n u c) =

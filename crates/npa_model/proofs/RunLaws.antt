@@ -36,7 +36,8 @@ module _ (nf : Term → Term) (strands : List Strand) (instances : List Instance
       let same : a ≡ b = same_Some a b (sym p.there ∙ q.there) in
       (same, same_Some e f (sym p.next ∙ ap (λ (x : Instance). slice_get (events_of strands x) done) same ∙ q.next))
 
-  same_message : {done i : ℕ} {a b : Instance} {e f : Event} → Next nf strands instances done i a e → Next nf strands instances done i b f → message_of nf strands instances a e ≡ message_of nf strands instances b f
+  -- the event that an instance executes next has one message
+  pub same_message : {done i : ℕ} {a b : Instance} {e f : Event} → Next nf strands instances done i a e → Next nf strands instances done i b f → message_of nf strands instances a e ≡ message_of nf strands instances b f
   same_message p q = let s = same_next p q in λ j. message_of nf strands instances (s.0 j) (s.1 j)
 
   missing_next : {done i : ℕ} {a : Instance} {e : Event} → slice_get instances i ≡ None → Next nf strands instances done i a e → ⊥
@@ -47,7 +48,8 @@ module _ (nf : Term → Term) (strands : List Strand) (instances : List Instance
       let same : a ≡ b = same_Some a b (sym there ∙ p.there) in
       none-some e (sym none ∙ ap (λ (x : Instance). slice_get (events_of strands x) done) same ∙ p.next)
 
-  both_kinds : {done i : ℕ} {a b : Instance} {e f : Event} → Next nf strands instances done i a e → Next nf strands instances done i b f → e.sent ≡ true → f.sent ≡ false → ⊥
+  -- and is sent or received, not both
+  pub both_kinds : {done i : ℕ} {a b : Instance} {e f : Event} → Next nf strands instances done i a e → Next nf strands instances done i b f → e.sent ≡ true → f.sent ≡ false → ⊥
   both_kinds {e = e} {f = f} p q t u = let same : e ≡ f = (same_next p q).1 in cc
 
   both_sent : {done i : ℕ} {a b : Instance} {e f : Event} (sent : List Term) → Next nf strands instances done i a e → Next nf strands instances done i b f → Contains sent (message_of nf strands instances a e) → (Contains sent (message_of nf strands instances b f) → ⊥) → ⊥
@@ -82,7 +84,7 @@ module _ (nf : Term → Term) (strands : List Strand) (instances : List Instance
   one_outcome {sent = sent} (sends a e m t) (sends b f n u) = ap (λ (x : Term). Ok (sent ++ x ∷ [])) (same_message m n)
 
   -- a step at equal places is one step
-  at_one : {done more : ℕ} {sent told : List Term} {i k : ℕ} {r : Result (List Term) Cause} → done ≡ more → sent ≡ told → i ≡ k → Happens nf strands instances done sent i r → Happens nf strands instances more told k r
+  pub at_one : {done more : ℕ} {sent told : List Term} {i k : ℕ} {r : Result (List Term) Cause} → done ≡ more → sent ≡ told → i ≡ k → Happens nf strands instances done sent i r → Happens nf strands instances more told k r
   at_one {done} {more} {sent} {told} {i} {k} {r} d s e h =
       subst (λ (n : ℕ). Happens nf strands instances more told n r) e
       (subst (λ (ts : List Term). Happens nf strands instances more ts i r) s

@@ -9,11 +9,13 @@ use Rattle.npa_sig.specs.declared.protocol.Strand.{Strand}
 use Rattle.npa_sig.specs.Signature.{Signature}
 use Rattle.npa_model.specs.declared.run.Instance.{Instance}
 use Rattle.npa_model.specs.declared.run.Cause.{Cause}
-use Rattle.npa_model.specs.Values.{under}
+use Rattle.npa_sig.specs.Values.{under}
 use Rattle.npa_model.specs.Runs.{events_of, Happens, no_instance, ended, unsent, receives, sends, Next, Executes, begin, step}
-use Rattle.npa_model.specs.Instances.{param_sorts, IsGroundTerm, IsInstance}
-use Rattle.npa_model.specs.WellFormed.{AreWellFormedStrands}
-use Rattle.npa_model.proofs.SortedTerms.{under_ground}
+use Rattle.npa_model.specs.Instances.{IsInstance}
+use Rattle.npa_sig.specs.Parameters.{param_sorts}
+use Rattle.npa_sig.specs.Sorting.{IsGroundTerm}
+use Rattle.npa_sig.specs.WellFormed.{AreWellFormedStrands}
+use Rattle.npa_sig.proofs.SortedTerms.{under_ground}
 
 abbrev sent_of : Result (List Term) Cause → List Term
 sent_of (Ok ts) = ts

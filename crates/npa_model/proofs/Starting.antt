@@ -1,18 +1,21 @@
 -- Faults of instances are told one after another.
 use Rattle.std.proofs.Common.{◌≡◌, ℕ, ◌+◌, ◌<◌, ◌≤◌, Bool, true, false, List, [], ◌∷◌, ◌++◌, Option, None, Some, refl, ap, sym, ◌∙◌, length, drop, get_or, drop-cons, add-one, cond, slice_get, append_assoc, append-nil, nat_eq, is_some, IfNone}
+use Rattle.std.specs.Option.{option_or}
 use Rattle.std.specs.List.{list_any}
 use Rattle.std.proofs.lemmas.List.{drop_all}
 use Rattle.npa_term.specs.declared.term.Term.{Term}
 use Rattle.npa_sig.specs.declared.protocol.Strand.{Strand}
 use Rattle.npa_sig.specs.Signature.{Signature}
-use Rattle.npa_sig.specs.Sorting.{sort_of, is_below}
+use Rattle.npa_sig.specs.Sorting.{is_below}
+use Rattle.npa_term.specs.Parts.{least_sort}
 use Rattle.npa_model.specs.declared.run.Instance.{Instance}
 use Rattle.npa_model.specs.declared.run.Cause.TheVariants as cause
-use Rattle.npa_model.specs.Normal.{is_normal_by}
-use Rattle.npa_model.specs.Instances.{sort_fault, normal_fault, instance_fault, first_fault, or_else, first_again, names_among, name_in, fresh_names, fresh_terms}
+use Rattle.npa_rewrite.specs.Normal.{is_normal_by}
+use Rattle.npa_model.specs.Instances.{sort_fault, normal_fault, instance_fault, first_fault, first_again, names_among, name_in, fresh_names}
+use Rattle.npa_sig.specs.Parameters.{fresh_terms}
 
 pub sort_fault_step : (sig : Signature) (k p : ℕ) (args : List Term) (sorts : List ℕ) (d : Term) → p < length args → p < length sorts →
-    sort_fault sig k p (drop p args) (drop p sorts) ≡ cond (is_below sig (sort_of (get_or args p d)) (get_or sorts p 0)) (sort_fault sig k (p + 1) (drop (p + 1) args) (drop (p + 1) sorts)) (Some (cause.Sort k p))
+    sort_fault sig k p (drop p args) (drop p sorts) ≡ cond (is_below sig (least_sort (get_or args p d)) (get_or sorts p 0)) (sort_fault sig k (p + 1) (drop (p + 1) args) (drop (p + 1) sorts)) (Some (cause.Sort k p))
 sort_fault_step sig k p args sorts d l m = rw (drop-cons args p d, drop-cons sorts p 0, add-one) refl
 
 pub sort_fault_ends : (sig : Signature) (k p : ℕ) (args : List Term) (sorts : List ℕ) → length args ≤ p → sort_fault sig k p (drop p args) (drop p sorts) ≡ None
@@ -26,7 +29,7 @@ pub normal_fault_ends : (nf : Term → Term) (k p : ℕ) (args : List Term) → 
 normal_fault_ends nf k p args l = ap (λ (ts : List Term). normal_fault nf k p ts) (drop_all p args l)
 
 pub first_fault_step : (nf : Term → Term) (sig : Signature) (strands : List Strand) (k : ℕ) (instances : List Instance) (d : Instance) → k < length instances →
-    first_fault nf sig strands k (drop k instances) ≡ or_else (instance_fault nf sig strands k (get_or instances k d)) (first_fault nf sig strands (k + 1) (drop (k + 1) instances))
+    first_fault nf sig strands k (drop k instances) ≡ option_or (instance_fault nf sig strands k (get_or instances k d)) (first_fault nf sig strands (k + 1) (drop (k + 1) instances))
 first_fault_step nf sig strands k instances d l = rw (drop-cons instances k d, add-one) refl
 
 names_step : (vs : List Term) (i : ℕ) (d : Term) → i < length vs → names_among (drop i vs) ≡ name_in (get_or vs i d) ++ names_among (drop (i + 1) vs)

@@ -10,7 +10,7 @@ use Rattle.npa_model.specs.declared.run.Cause.{Cause}
 use Rattle.npa_model.specs.declared.run.Cause.TheVariants as cause
 use Rattle.npa_model.specs.declared.run.RunFail.{RunFail}
 use Rattle.npa_model.specs.declared.run.RunFail.TheVariants as run_fail
-use Rattle.npa_model.specs.Values.{under}
+use Rattle.npa_sig.specs.Values.{under}
 use Rattle.npa_model.specs.Runs.{events_of, Next, Happens, no_instance, ended, unsent, receives, sends}
 use Rattle.npa_model.specs.State.{State, done_of, StepsTo, Steps, Exchanges, AreCountable}
 

@@ -4,20 +4,22 @@ use Rattle.npa_term.specs.declared.term.Term.{Term}
 use Rattle.npa_term.specs.Canonical.{canonical}
 use Rattle.npa_sig.specs.declared.protocol.Protocol.{Protocol}
 use Rattle.npa_sig.specs.Signature.{Signature}
-use Rattle.npa_sig.specs.Sorting.{sort_of, all_below}
+use Rattle.npa_sig.specs.Sorting.{all_below}
+use Rattle.npa_term.specs.Parts.{least_sort}
 use Rattle.npa_model.specs.declared.aim.Part.{Part}
 use Rattle.npa_model.specs.declared.aim.Part.TheVariants as part
 use Rattle.npa_model.specs.declared.aim.Aim.{Aim}
 use Rattle.npa_model.specs.declared.run.Instance.{Instance}
 use Rattle.npa_model.specs.declared.run.Run.{Run}
 use Rattle.npa_model.specs.declared.run.Cause.{Cause}
-use Rattle.npa_model.specs.Values.{under}
+use Rattle.npa_sig.specs.Values.{under}
 use Rattle.npa_model.specs.Runs.{Executes, BreaksAt, executions}
-use Rattle.npa_model.specs.Instances.{IsNormalTerm, AreInstances, start_fault}
+use Rattle.npa_model.specs.Instances.{AreInstances, start_fault}
+use Rattle.npa_rewrite.specs.Normal.{IsNormalTerm}
 
 -- An assignment to the variables of an aim: a normal ground term for each, of a sort at or below.
 pub record Assigns (nf : Term → Term) (sig : Signature) (sorts : List ℕ) (values : List Term) : Type 0 where
-  pub sorted : all_below sig (map sort_of values) sorts ≡ true
+  pub sorted : all_below sig (map least_sort values) sorts ≡ true
   pub normal : (t : Term) → Contains values t → IsNormalTerm nf sig t
 
 module _ (nf : Term → Term) (run : Run) (sent values : List Term) where

@@ -1,42 +1,28 @@
 -- The instances that a run begins with.
-use Rattle.std.specs.Prelude.{◌≡◌, ℕ, ◌+◌, true, false, ◌==◌, List, [], ◌∷◌, ◌++◌, Option, None, Some, Result, Ok, Err, map, length, drop, replicate, slice_get, cond, Contains, nat_eq}
-use Rattle.std.specs.Option.{option_map}
+use Rattle.std.specs.Prelude.{◌≡◌, ℕ, ◌+◌, true, false, ◌==◌, List, [], ◌∷◌, ◌++◌, Option, None, Some, Result, Ok, Err, map, length, replicate, slice_get, cond, Contains, nat_eq}
+use Rattle.std.specs.Option.{option_map, option_or}
 use Rattle.std.specs.List.{list_any}
 use Rattle.npa_term.specs.declared.term.Term.{Term}
 use Rattle.npa_term.specs.declared.term.Term.TheVariants.{Var, Name, App'}
-use Rattle.npa_term.specs.Variables.{IsGround}
-use Rattle.npa_term.specs.Canonical.{canonical}
 use Rattle.npa_sig.specs.declared.protocol.Strand.{Strand}
+use Rattle.npa_sig.specs.Parameters.{param_sorts, fresh_terms}
 use Rattle.npa_sig.specs.Signature.{Signature}
-use Rattle.npa_sig.specs.Sorting.{sort_of, is_below, all_below, well_sorted}
+use Rattle.npa_sig.specs.Sorting.{is_below, all_below, IsGroundTerm}
+use Rattle.npa_term.specs.Parts.{least_sort}
+use Rattle.npa_rewrite.specs.Normal.{is_normal_by, IsNormalTerm}
 use Rattle.npa_model.specs.declared.run.Instance.{Instance}
 use Rattle.npa_model.specs.declared.run.Cause.{Cause}
 use Rattle.npa_model.specs.declared.run.Cause.TheVariants as cause
 use Rattle.npa_model.specs.declared.run.RunFail.{RunFail}
 use Rattle.npa_model.specs.declared.run.RunFail.TheVariants as run_fail
-use Rattle.npa_model.specs.Normal.{is_normal_by}
 use Rattle.npa_model.specs.State.{State}
-
--- the sorts of a strand's parameters: of its variables, then that of fresh values for each of those
-abbrev pub param_sorts : Strand → List ℕ
-param_sorts strand = strand.vars ++ replicate strand.fresh 1
-
--- a ground term: well sorted and without variables
-pub record IsGroundTerm (sig : Signature) (t : Term) : Type 0 where
-  pub sorted : well_sorted sig t ≡ true
-  pub ground : IsGround t
-
--- a normal ground term: its normal form is its canonical form
-pub record IsNormalTerm (nf : Term → Term) (sig : Signature) (t : Term) : Type 0 where
-  pub term : IsGroundTerm sig t
-  pub normal : nf t ≡ canonical t
 
 -- An instance is a strand with a normal ground term for each parameter, of a sort at or below the
 -- parameter's.
 pub record IsInstance (nf : Term → Term) (sig : Signature) (strands : List Strand) (instance : Instance) : Type 0 where
   pub strand : Strand
   pub there : slice_get strands instance.strand ≡ Some strand
-  pub sorts : all_below sig (map sort_of instance.args) (param_sorts strand) ≡ true
+  pub sorts : all_below sig (map least_sort instance.args) (param_sorts strand) ≡ true
   pub normal : (t : Term) → Contains instance.args t → IsNormalTerm nf sig t
 
 -- each term of each instance is ground and well sorted
@@ -52,10 +38,6 @@ name_in (App' op n args) = []
 abbrev pub names_among : List Term → List ℕ
 names_among [] = []
 names_among (t ∷ ts) = name_in t ++ names_among ts
-
-abbrev pub fresh_terms : Option Strand → List Term → List Term
-fresh_terms None args = []
-fresh_terms (Some strand) args = drop (length strand.vars) args
 
 -- the fresh names that are the values of fresh parameters, instance by instance
 abbrev pub fresh_names : List Strand → List Instance → List ℕ
@@ -76,11 +58,7 @@ pub record AreInstances (nf : Term → Term) (sig : Signature) (strands : List S
 abbrev pub sort_fault : Signature → ℕ → ℕ → List Term → List ℕ → Option Cause
 sort_fault sig k p [] sorts = None
 sort_fault sig k p (t ∷ ts) [] = None
-sort_fault sig k p (t ∷ ts) (s ∷ sorts) = cond (is_below sig (sort_of t) s) (sort_fault sig k (p + 1) ts sorts) (Some (cause.Sort k p))
-
-abbrev pub or_else : Option Cause → Option Cause → Option Cause
-or_else (Some c) o = Some c
-or_else None o = o
+sort_fault sig k p (t ∷ ts) (s ∷ sorts) = cond (is_below sig (least_sort t) s) (sort_fault sig k (p + 1) ts sorts) (Some (cause.Sort k p))
 
 -- the first parameter, from p on, whose term isn't normal
 abbrev pub normal_fault : (Term → Term) → ℕ → ℕ → List Term → Option Cause
@@ -89,7 +67,7 @@ normal_fault nf k p (t ∷ ts) = cond (is_normal_by nf t) (normal_fault nf k (p 
 
 abbrev pub strand_fault : (Term → Term) → Signature → ℕ → Option Strand → List Term → Option Cause
 strand_fault nf sig k None args = Some (cause.Params k)
-strand_fault nf sig k (Some strand) args = cond (length args == length (param_sorts strand)) (or_else (sort_fault sig k 0 args (param_sorts strand)) (normal_fault nf k 0 args)) (Some (cause.Params k))
+strand_fault nf sig k (Some strand) args = cond (length args == length (param_sorts strand)) (option_or (sort_fault sig k 0 args (param_sorts strand)) (normal_fault nf k 0 args)) (Some (cause.Params k))
 
 -- why the instance of number k is none: its number of terms, then the first wrong sort, then the
 -- first term that isn't normal
@@ -98,7 +76,7 @@ instance_fault nf sig strands k instance = strand_fault nf sig k (slice_get stra
 
 abbrev pub first_fault : (Term → Term) → Signature → List Strand → ℕ → List Instance → Option Cause
 first_fault nf sig strands k [] = None
-first_fault nf sig strands k (i ∷ is) = or_else (instance_fault nf sig strands k i) (first_fault nf sig strands (k + 1) is)
+first_fault nf sig strands k (i ∷ is) = option_or (instance_fault nf sig strands k i) (first_fault nf sig strands (k + 1) is)
 
 -- the first name that stands a second time, behind names that were seen
 abbrev pub first_again : List ℕ → List ℕ → Option ℕ
@@ -108,7 +86,7 @@ first_again seen (n ∷ ns) = cond (list_any (nat_eq n) seen) (Some n) (first_ag
 -- why a run doesn't begin with these instances: the first fault of an instance, then the first fresh
 -- name that is the value of a second fresh parameter
 abbrev pub start_fault : (Term → Term) → Signature → List Strand → List Instance → Option Cause
-start_fault nf sig strands instances = or_else (first_fault nf sig strands 0 instances) (option_map cause.Twice (first_again [] (fresh_names strands instances)))
+start_fault nf sig strands instances = option_or (first_fault nf sig strands 0 instances) (option_map cause.Twice (first_again [] (fresh_names strands instances)))
 
 -- the run begins with nothing executed and nothing sent, or this is why it doesn't
 abbrev pub Starts : (Term → Term) → Signature → List Strand → List Instance → Result State RunFail → Type 0

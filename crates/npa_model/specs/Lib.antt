@@ -1,5 +1,3 @@
-pub mod Values
-pub mod Normal
 pub mod Runs
 pub mod State
 pub mod Instances

@@ -9,7 +9,7 @@ use Rattle.npa_sig.specs.declared.protocol.Strand.{Strand}
 use Rattle.npa_model.specs.declared.run.Instance.{Instance}
 use Rattle.npa_model.specs.declared.run.Cause.{Cause}
 use Rattle.npa_model.specs.declared.run.Cause.TheVariants as cause
-use Rattle.npa_model.specs.Values.{under}
+use Rattle.npa_sig.specs.Values.{under}
 
 -- the events of an instance: those of its strand
 abbrev pub events_of : List Strand → Instance → List Event

@@ -1,8 +1,9 @@
 //! Laws of runs. Each function does nothing: its clauses are the laws, for the proofs of the
 //! crates above.
 
-ghost use Rattle.std.specs.Prelude.{◌≡◌, ◌↔◌, ℕ, [], None, List, Result};
+ghost use Rattle.std.specs.Prelude.{◌≡◌, ◌↔◌, ℕ, true, [], None, List, Result, Contains, map};
 ghost use Rattle.npa_term.specs.declared.term.Term.{Term};
+ghost use Rattle.npa_term.specs.Parts.{least_sort};
 ghost use Rattle.npa_sig.specs.declared.protocol.Strand.{Strand};
 ghost use Rattle.npa_sig.specs.declared.protocol.Protocol.{Protocol};
 ghost use Rattle.npa_sig.specs.Signature.{Signature};
@@ -10,9 +11,17 @@ ghost use Rattle.npa_model.specs.declared.aim.Aim.{Aim};
 ghost use Rattle.npa_model.specs.declared.run.Instance.{Instance};
 ghost use Rattle.npa_model.specs.declared.run.Run.{Run};
 ghost use Rattle.npa_model.specs.declared.run.Cause.{Cause};
+ghost use Rattle.npa_model.specs.declared.run.RunFail.{RunFail};
 ghost use Rattle.npa_model.specs.Runs.{Happens, Executes, BreaksAt};
-ghost use Rattle.npa_model.specs.WellFormed.{IsWellFormedAim, IsWellFormedProtocol};
-ghost use Rattle.npa_model.specs.Instances.{IsGroundTerm, AreApart, AreGroundTerms, AreInstances, first_again, start_fault};
+ghost use Rattle.npa_model.specs.WellFormed.{IsWellFormedAim};
+ghost use Rattle.npa_sig.specs.Sorting.{IsGroundTerm, all_below};
+ghost use Rattle.npa_sig.specs.Values.{under};
+ghost use Rattle.npa_sig.specs.WellFormed.{IsTermOver, IsWellFormedProtocol};
+ghost use Rattle.npa_rewrite.specs.declared.theory.Theory.{Theory};
+ghost use Rattle.npa_rewrite.specs.Innermost.{normalized};
+ghost use Rattle.npa_rewrite.specs.Rewriting.{AllCancel, GivesNormalForms, IsConvergent};
+ghost use Rattle.npa_model.specs.Instances.{AreApart, AreGroundTerms, AreInstances, Starts, first_again, start_fault};
+ghost use Rattle.npa_model.specs.State.{State, Steps};
 ghost use Rattle.npa_model.specs.Aims.{IsRun, Reaches, Misses, Breaks};
 
 /// A step has one outcome, and a schedule that is executed sends one list of terms.
@@ -50,4 +59,16 @@ pub fn form_laws()
     ensures breaks { (protocol : Protocol) (nf mf : Term → Term) (run : Run) (j : ℕ) (why : Cause) → IsWellFormedProtocol protocol → ((t : Term) → IsGroundTerm protocol.sig t → nf t ≡ mf t) → AreGroundTerms protocol.sig run.instances → Breaks nf protocol run j why → Breaks mf protocol run j why }
     ensures reaches { (protocol : Protocol) (nf mf : Term → Term) (aim : Aim) (run : Run) → IsWellFormedProtocol protocol → ((t : Term) → IsGroundTerm protocol.sig t → nf t ≡ mf t) → IsWellFormedAim protocol.sig protocol.strands aim → Reaches nf protocol aim run → Reaches mf protocol aim run }
     ensures misses { (protocol : Protocol) (nf mf : Term → Term) (aim : Aim) (run : Run) (k : ℕ) → IsWellFormedProtocol protocol → ((t : Term) → IsGroundTerm protocol.sig t → nf t ≡ mf t) → IsWellFormedAim protocol.sig protocol.strands aim → Misses nf protocol aim run k → Misses mf protocol aim run k }
+{}
+
+/// What `start`, `step_run` and `message` answer is so by each function that has the normal forms: where
+/// two functions have the same normal forms of ground terms, a run of a well-formed protocol begins
+/// alike by both, a step of it does the same, and a message under ground values of the right sorts has
+/// one normal form. In a convergent theory whose equations cancel, each function that has the normal
+/// forms has the one that is made.
+pub fn state_laws()
+    ensures starts { (protocol : Protocol) (nf mf : Term → Term) (instances : List Instance) (result : Result State RunFail) → ((t : Term) → IsGroundTerm protocol.sig t → nf t ≡ mf t) → AreGroundTerms protocol.sig instances → Starts nf protocol.sig protocol.strands instances result → Starts mf protocol.sig protocol.strands instances result }
+    ensures steps { (protocol : Protocol) (nf mf : Term → Term) (instances : List Instance) (old new : State) (i : ℕ) (result : Result (Unit {0}) RunFail) → IsWellFormedProtocol protocol → ((t : Term) → IsGroundTerm protocol.sig t → nf t ≡ mf t) → AreInstances nf protocol.sig protocol.strands instances → Steps nf protocol.strands instances old new i result → Steps mf protocol.strands instances old new i result }
+    ensures messages { (sig : Signature) (nf mf : Term → Term) (sorts : List ℕ) (values : List Term) (t : Term) → ((u : Term) → IsGroundTerm sig u → nf u ≡ mf u) → all_below sig (map least_sort values) sorts ≡ true → ((u : Term) → Contains values u → IsGroundTerm sig u) → IsTermOver sig sorts t → nf (under values t) ≡ mf (under values t) }
+    ensures made { (th : Theory) (nf : Term → Term) (t : Term) → AllCancel th → IsConvergent th → GivesNormalForms th nf → IsGroundTerm th.sig t → normalized th t ≡ nf t }
 {}

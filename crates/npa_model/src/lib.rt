@@ -11,7 +11,7 @@ mod state;
 mod values;
 
 pub use aim::{Aim, Aims, Part, Parts};
-pub use laws::{break_laws, execution_laws, form_laws, instance_laws, outcome_laws};
+pub use laws::{break_laws, execution_laws, form_laws, instance_laws, outcome_laws, state_laws};
 pub use run::{Cause, Instance, Instances, Places, Run, RunFail};
 pub use state::{RunState, step_run};
 pub use values::message;

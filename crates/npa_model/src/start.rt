@@ -2,8 +2,9 @@ ghost use Rattle.std.specs.Prelude.{◌≡◌, ◌<◌, ◌^◌, ◌++◌, [], �
 ghost use Rattle.npa_sig.specs.declared.protocol.Strand.{Strand};
 ghost use Rattle.npa_rewrite.specs.Innermost.{normalized};
 ghost use Rattle.npa_rewrite.specs.Rewriting.{AllCancel};
-ghost use Rattle.npa_model.specs.Normal.{is_normal_by};
-ghost use Rattle.npa_model.specs.Instances.{Starts, strand_fault, instance_fault, sort_fault, normal_fault, first_fault, first_again, fresh_names, fresh_terms, names_among, name_in, param_sorts};
+ghost use Rattle.npa_rewrite.specs.Normal.{is_normal_by};
+ghost use Rattle.npa_model.specs.Instances.{Starts, strand_fault, instance_fault, sort_fault, normal_fault, first_fault, first_again, fresh_names, names_among, name_in};
+ghost use Rattle.npa_sig.specs.Parameters.{fresh_terms, param_sorts};
 
 use crate::run::{Cause, Instance, Instances, RunFail};
 use crate::sent::Sent;

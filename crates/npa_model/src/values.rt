@@ -1,5 +1,5 @@
 ghost use Rattle.std.specs.Prelude.{◌≡◌, IfOk};
-ghost use Rattle.npa_model.specs.Values.{under};
+ghost use Rattle.npa_sig.specs.Values.{under};
 ghost use Rattle.npa_rewrite.specs.Innermost.{normalized};
 ghost use Rattle.npa_rewrite.specs.Rewriting.{AllCancel};
 

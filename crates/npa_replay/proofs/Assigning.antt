@@ -12,6 +12,7 @@ use Rattle.npa_term.specs.declared.term.Term.{Term, Var, App}
 use Rattle.npa_term.specs.Agreeing.{ValuesAgree}
 use Rattle.npa_term.specs.Bound.{value_of, applied, same_var}
 use Rattle.npa_term.specs.Canonical.{canonical}
+use Rattle.npa_term.specs.Parts.{least_sort, image, IsPart, whole, inside}
 use Rattle.npa_term.specs.Same.{Same}
 use Rattle.npa_term.specs.Variables.{variables, IsGround}
 use Rattle.npa_term.proofs.AgreeingLaws.{same_canonical, canonical_equal}
@@ -20,14 +21,13 @@ use Rattle.npa_term.proofs.GroundLaws.{ground_arguments}
 use Rattle.npa_term.proofs.Induction.{Each, by_terms}
 use Rattle.npa_term.proofs.Rows.{applied_app, variables_at}
 use Rattle.npa_sig.specs.Signature.{Signature}
-use Rattle.npa_sig.specs.Sorting.{is_below, sort_of, all_below}
-use Rattle.npa_match.specs.Matching.{least_sort, image, IsPart, whole, inside, IsMatcher}
-use Rattle.npa_model.specs.Values.{under}
-use Rattle.npa_model.specs.Instances.{IsNormalTerm}
-use Rattle.npa_model.specs.WellFormed.{IsOwn, IsTermOver}
-use Rattle.npa_model.proofs.Rows.{under_at}
-use Rattle.npa_model.proofs.SortedTerms.{IsSorted, declaration, sorted_agrees, arguments_sorted, below_at}
-use Rattle.npa_replay.specs.Choices.{HasMatch}
+use Rattle.npa_sig.specs.Sorting.{is_below, all_below}
+use Rattle.npa_match.specs.Matching.{HasMatch, IsMatcher}
+use Rattle.npa_sig.specs.Values.{under}
+use Rattle.npa_rewrite.specs.Normal.{IsNormalTerm}
+use Rattle.npa_sig.specs.WellFormed.{IsOwn, IsTermOver}
+use Rattle.npa_sig.proofs.Bindings.{variable, applied_under, bindings, as_bound, bound_below}
+use Rattle.npa_sig.proofs.SortedTerms.{IsSorted, declaration, sorted_agrees, arguments_sorted}
 use Rattle.npa_replay.proofs.Choosing.{occurs_first, occurs_in}
 use Rattle.npa_replay.proofs.Members.{contains_cases}
 
@@ -48,34 +48,11 @@ part_ground {t = t} (inside op us u h p) g = part_ground p (each_member IsGround
 part_normal : (nf : Term → Term) (sig : Signature) → ((t u : Term) → IsPart t u → nf u ≡ canonical u → nf t ≡ canonical t) → (t u : Term) → IsPart t u → IsNormalTerm nf sig u → IsNormalTerm nf sig t
 part_normal nf sig keeps t u p n = record { term = record { sorted = part_sorted sig p n.term.sorted; ground = part_ground p n.term.ground }; normal = keeps t u p n.normal }
 
--- the two names of the least sort
-pub least_is : (t : Term) → least_sort t ≡ sort_of t
-least_is = by_terms (λ t. least_sort t ≡ sort_of t) (λ v. refl) (λ n. refl) (λ op ts each. refl)
-
--- a substitution and values that agree on a term's variables give one instance
-applied_under : (s : List (Variable × Term)) (values : List Term) (t : Term) → ((v : Variable) → Contains (variables t) v → applied s (Var v) ≡ under values (Var v)) → applied s t ≡ under values t
-applied_under s values =
-    by_terms (λ t. ((v : Variable) → Contains (variables t) v → applied s (Var v) ≡ under values (Var v)) → applied s t ≡ under values t)
-    (λ v alike. alike v (0, omega arith, refl)) (λ n alike. refl)
-    (λ op ts each alike.
-    let all : variables (App op ts) ≡ flat_map variables ts = variables_at (App op ts) op ts refl in
-    applied_app s op ts ∙ ap (App op) (members ts each (λ v c. alike v (subst (λ (vs : List Variable). Contains vs v) (sym all) c))) ∙ sym (under_at values (App op ts) op ts refl))
-  where
-    members : (ts : List Term) → Each (λ t. ((v : Variable) → Contains (variables t) v → applied s (Var v) ≡ under values (Var v)) → applied s t ≡ under values t) ts →
-        ((v : Variable) → Contains (flat_map variables ts) v → applied s (Var v) ≡ under values (Var v)) → map (applied s) ts ≡ map (under values) ts
-    members [] each alike = refl
-    members (t ∷ ts) each alike =
-        ap (λ w. w ∷ map (applied s) ts) (each.0 (λ v c. alike v (Contains-append_left (variables t) (flat_map variables ts) v c)))
-        ∙ ap (λ ws. under values t ∷ ws) (members ts each.1 (λ v c. alike v (Contains-append_right (variables t) (flat_map variables ts) v c)))
-
-abbrev variable : ℕ → ℕ → Variable
-variable n s = record { num = n; sort = s }
-
 -- a normal ground term of a sort at or below this one
 pub record HasNormalTerm (nf : Term → Term) (sig : Signature) (sort : ℕ) : Type 0 where
   pub term : Term
   pub good : IsNormalTerm nf sig term
-  pub below : is_below sig (sort_of term) sort ≡ true
+  pub below : is_below sig (least_sort term) sort ≡ true
 
 module _ (nf : Term → Term) (sig : Signature) (sorts : List ℕ) where
   -- a pair of a term over the aim's variables and a normal ground term
@@ -89,14 +66,14 @@ module _ (nf : Term → Term) (sig : Signature) (sorts : List ℕ) where
   -- the values of an assignment, and that they make the members of each pair equal
   pub record Assigned (pairs : List (Term × Term)) : Type 0 where
     pub values : List Term
-    pub sorted : all_below sig (map sort_of values) sorts ≡ true
+    pub sorted : all_below sig (map least_sort values) sorts ≡ true
     pub good : (t : Term) → Contains values t → IsNormalTerm nf sig t
     pub equal : (p : Term × Term) → Contains pairs p → canonical (under values p.0) ≡ canonical p.1
 
   module _ (keeps : (t u : Term) → IsPart t u → nf u ≡ canonical u → nf t ≡ canonical t) (pairs : List (Term × Term)) (good : AreGood pairs) (s : List (Variable × Term)) (m : IsMatcher sig.sorts pairs s) where
     record Good (t : Term) (sort : ℕ) : Type 0 where
       term : IsNormalTerm nf sig t
-      below : is_below sig (sort_of t) sort ≡ true
+      below : is_below sig (least_sort t) sort ≡ true
 
     bound_good : (v : Variable) (t : Term) → value_of s v ≡ Some t → Good t v.sort
     bound_good v t e =
@@ -105,7 +82,7 @@ module _ (nf : Term → Term) (sig : Signature) (sorts : List ℕ) where
         let is : image s v ≡ t = ap (λ o. unwrap_or o (Var v)) e in
         record {
           term = part_normal nf sig keeps t x.1 x.3 p.second;
-          below = subst (λ n. is_below sig n v.sort ≡ true) (ap least_sort is ∙ least_is t) ((decides sig.sorts (least_sort (image s v)) v.sort).1 (m.matches.sorts v (m.only v t e)));
+          below = subst (λ n. is_below sig n v.sort ≡ true) (ap least_sort is) ((decides sig.sorts (least_sort (image s v)) v.sort).1 (m.matches.sorts v (m.only v t e)));
         }
 
     value_good : (v : Variable) (d : HasNormalTerm nf sig v.sort) → Good (unwrap_or (value_of s v) d.term) v.sort
@@ -119,10 +96,10 @@ module _ (nf : Term → Term) (sig : Signature) (sorts : List ℕ) where
     values_from k [] has = []
     values_from k (n ∷ ss) has = unwrap_or (value_of s (variable k n)) (has 0 n refl).term ∷ values_from (k + 1) ss (λ i. has (suc i))
 
-    values_below : (k : ℕ) (ss : List ℕ) (has : (i n : ℕ) → slice_get ss i ≡ Some n → HasNormalTerm nf sig n) → all_below sig (map sort_of (values_from k ss has)) ss ≡ true
+    values_below : (k : ℕ) (ss : List ℕ) (has : (i n : ℕ) → slice_get ss i ≡ Some n → HasNormalTerm nf sig n) → all_below sig (map least_sort (values_from k ss has)) ss ≡ true
     values_below k [] has = refl
     values_below k (n ∷ ss) has =
-        and_from (is_below sig (sort_of (unwrap_or (value_of s (variable k n)) (has 0 n refl).term)) n) (all_below sig (map sort_of (values_from (k + 1) ss (λ i. has (suc i)))) ss)
+        and_from (is_below sig (least_sort (unwrap_or (value_of s (variable k n)) (has 0 n refl).term)) n) (all_below sig (map least_sort (values_from (k + 1) ss (λ i. has (suc i)))) ss)
         (value_good (variable k n) (has 0 n refl)).below (values_below (k + 1) ss (λ i. has (suc i)))
 
     values_ground : (k : ℕ) (ss : List ℕ) (has : (i n : ℕ) → slice_get ss i ≡ Some n → HasNormalTerm nf sig n) → Each (IsNormalTerm nf sig) (values_from k ss has)
@@ -166,57 +143,17 @@ module _ (nf : Term → Term) (sig : Signature) (sorts : List ℕ) where
               ∙ same_canonical (declaration sig) (applied s p.0) p.1 (agrees_applied (declaration sig) s agree p.0 (sorted_agrees sig p.0 g.first.sorted)) (sorted_agrees sig p.1 g.second.term.sorted) (m.matches.equal p.0 p.1 h);
         }
 
-module _ (sig : Signature) (sorts : List ℕ) where
-  -- an assignment, as a substitution
-  abbrev pub bindings : ℕ → List ℕ → List Term → List (Variable × Term)
-  bindings k [] values = []
-  bindings k (n ∷ ss) [] = []
-  bindings k (n ∷ ss) (t ∷ values) = (variable k n, t) ∷ bindings (k + 1) ss values
-
-  bound_at : (k : ℕ) (ss : List ℕ) (values : List Term) (i n : ℕ) (t : Term) → slice_get ss i ≡ Some n → slice_get values i ≡ Some t → value_of (bindings k ss values) (variable (k + i) n) ≡ Some t
-  bound_at k [] values i n t at there = absurd (none-some n at)
-  bound_at k (r ∷ ss) [] i n t at there = absurd (none-some t there)
-  bound_at k (r ∷ ss) (u ∷ values) zero n t at there =
-      let place : k ≡ k + 0 = omega arith in
-      let sort : r ≡ n = same_Some r n at in
-      let here : same_var (variable k r) (variable (k + 0) n) ≡ true = and_from (nat_eq k (k + 0)) (nat_eq r n) (eq-eqb k (k + 0) place) (eq-eqb r n sort) in
-      ap (λ b. cond b (Some u) (value_of (bindings (k + 1) ss values) (variable (k + 0) n))) here ∙ there
-  bound_at k (r ∷ ss) (u ∷ values) (suc i) n t at there =
-      let other : nat_eq k (k + suc i) ≡ false = ne_eqb k (k + suc i) (λ (e : k ≡ k + suc i). let no : ⊥ = omega (arith, e) in no) in
-      let place : (k + 1) + i ≡ k + suc i = omega arith in
-      ap (λ b. cond (b && nat_eq r n) (Some u) (value_of (bindings (k + 1) ss values) (variable (k + suc i) n))) other
-      ∙ ap (λ a. value_of (bindings (k + 1) ss values) (variable a n)) (sym place) ∙ bound_at (k + 1) ss values i n t at there
-
-  module _ (values : List Term) (below : all_below sig (map sort_of values) sorts ≡ true) where
-    -- the instance of a term over the variables
-    pub as_bound : (t : Term) → IsOwn sorts t → applied (bindings 0 sorts values) t ≡ under values t
-    as_bound t own = applied_under (bindings 0 sorts values) values t (λ v h.
-        let x = below_at sig values sorts below v.num v.sort (own v h) in
-        let place : 0 + v.num ≡ v.num = omega arith in
-        let bound : value_of (bindings 0 sorts values) v ≡ Some x.term = ap (λ a. value_of (bindings 0 sorts values) (variable a v.sort)) (sym place) ∙ bound_at 0 sorts values v.num v.sort x.term (own v h) x.there in
-        ap (λ q. unwrap_or q (Var v)) (bound ∙ sym x.there))
-
-    -- which respects sorts
-    pub bound_below : (v : Variable) → slice_get sorts v.num ≡ Some v.sort → (image (bindings 0 sorts values) v ≡ under values (Var v)) × IsAtOrBelow sig.sorts (least_sort (image (bindings 0 sorts values) v)) v.sort
-    bound_below v own =
-        let b = below_at sig values sorts below v.num v.sort own in
-        let place : 0 + v.num ≡ v.num = omega arith in
-        let bound : value_of (bindings 0 sorts values) v ≡ Some b.term = ap (λ a. value_of (bindings 0 sorts values) (variable a v.sort)) (sym place) ∙ bound_at 0 sorts values v.num v.sort b.term own b.there in
-        let is : image (bindings 0 sorts values) v ≡ b.term = ap (λ o. unwrap_or o (Var v)) bound in (
-          is ∙ sym (ap (λ o. unwrap_or o (Var v)) b.there),
-          subst (λ n. IsAtOrBelow sig.sorts n v.sort) (sym (ap least_sort is ∙ least_is b.term)) ((decides sig.sorts (sort_of b.term) v.sort).0 b.below),
-        )
-
-    -- pairs that the values make equal have a match
-    pub matched : (pairs : List (Term × Term)) → ((p : Term × Term) → Contains pairs p → IsOwn sorts p.0 × (canonical (under values p.0) ≡ canonical p.1)) → HasMatch sig.sorts pairs
-    matched pairs each = record {
-      by_ = bindings 0 sorts values;
-      matches = record {
-        sorts = λ v h.
-            let x = occurs_in pairs v h in
-            (bound_below v ((each x.pair x.there).0 v x.occurs)).1;
-        equal = λ t u h.
-            let e = each (t, u) h in
-            subst (λ r. Same r u) (sym (as_bound t e.0)) (canonical_equal (under values t) u e.1);
-      };
-    }
+module _ (sig : Signature) (sorts : List ℕ) (values : List Term) (below : all_below sig (map least_sort values) sorts ≡ true) where
+  -- pairs that the values make equal have a match
+  pub matched : (pairs : List (Term × Term)) → ((p : Term × Term) → Contains pairs p → IsOwn sorts p.0 × (canonical (under values p.0) ≡ canonical p.1)) → HasMatch sig.sorts pairs
+  matched pairs each = record {
+    by_ = bindings 0 sorts values;
+    matches = record {
+      sorts = λ v h.
+          let x = occurs_in pairs v h in
+          (bound_below sig sorts values below v ((each x.pair x.there).0 v x.occurs)).1;
+      equal = λ t u h.
+          let e = each (t, u) h in
+          subst (λ r. Same r u) (sym (as_bound sig sorts values below t e.0)) (canonical_equal (under values t) u e.1);
+    };
+  }

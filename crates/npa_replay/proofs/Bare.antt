@@ -9,15 +9,15 @@ use Rattle.npa_model.specs.declared.aim.Aim.{Aim}
 use Rattle.npa_model.specs.declared.aim.Part.{Part}
 use Rattle.npa_model.specs.declared.aim.Part.TheVariants as part
 use Rattle.npa_model.specs.declared.run.Run.{Run}
-use Rattle.npa_model.specs.WellFormed.{IsWellFormedSignature, IsWellFormedProtocol, IsWellFormedPart, IsWellFormedAim, IsWellFormedRun}
+use Rattle.npa_model.specs.WellFormed.{IsWellFormedPart, IsWellFormedAim, IsWellFormedRun}
+use Rattle.npa_sig.specs.WellFormed.{IsWellFormedProtocol}
+use Rattle.npa_sig.specs.Operators.{IsWellFormedSignature}
+use Rattle.npa_sig.proofs.Operators.{formed_bare}
 use Rattle.npa_replay.proofs.Members.{contains_one}
-
-bare_formed : IsWellFormedSignature bare
-bare_formed = record { sorts = λ k decl at. cc; pairs = λ k decl at. cc }
 
 pub protocol_formed : (p : Protocol) → p.sig ≡ bare → p.equations ≡ [] → p.strands ≡ [] → IsWellFormedProtocol p
 protocol_formed p sig equations strands = record {
-  signature = subst (λ (s : Signature). IsWellFormedSignature s) (sym sig) bare_formed;
+  signature = subst (λ (s : Signature). IsWellFormedSignature s) (sym sig) formed_bare;
   equations = λ k equation at. cc;
   strands = λ k strand at. cc;
 }

@@ -8,13 +8,11 @@ use Rattle.npa_sorts.specs.Subsorts.{Subsorts}
 use Rattle.npa_term.specs.declared.term.Var.{Var as Variable}
 use Rattle.npa_term.specs.declared.term.Term.{Term}
 use Rattle.npa_term.specs.Variables.{variables}
-use Rattle.npa_match.specs.Matching.{Matches, first_variables}
+use Rattle.npa_match.specs.Matching.{HasMatch, HasMatcher, Matches, first_variables}
 use Rattle.npa_model.specs.declared.aim.Part.{Part}
 use Rattle.npa_model.specs.declared.run.Instance.{Instance}
 use Rattle.npa_model.specs.State.{State}
-use Rattle.npa_replay.specs.Choices.{HasMatch, HasMatcher, taken, AreFree, IsTarget, target_pairs, Can, done, next, IsOpen, AreCandidates, AreAllCandidates}
-use Rattle.npa_replay.specs.declared.choice.Choice.{Choice}
-use Rattle.std.proofs.Math.Seq.{take-append_seam}
+use Rattle.npa_replay.specs.Choices.{taken, AreFree, IsTarget, target_pairs, Can, done, next, IsOpen, AreCandidates, AreAllCandidates}
 use Rattle.npa_replay.proofs.Members.{all_zip_at, all_zip_length, all_zip_more, contains_cases, contains_head, contains_tail, get_same}
 
 pub front_front : (a b : ℕ) (qs : List Part) → a ≤ b → take a (take b qs) ≡ take a qs
@@ -203,11 +201,3 @@ module _ (o : Subsorts) where
         targets = was.targets;
         every = λ n t m. (n, was.every n (below n t) t m, refl, refl);
       }
-
--- a choice is as it was where what was taken is given back
-pub given_back : (old more back : Choice) (u p : ℕ) (ns : List ℕ) (ps : List (Term × Term)) → u ≡ length old.used → p ≡ length old.pairs →
-    more.used ≡ old.used ++ ns → more.pairs ≡ old.pairs ++ ps → back.used ≡ take u more.used → back.pairs ≡ take p more.pairs → back ≡ old
-given_back old more back u p ns ps u_is p_is used_more pairs_more used_back pairs_back =
-    let used : back.used ≡ old.used = used_back ∙ ap (take u) used_more ∙ ap (λ n. take n (old.used ++ ns)) u_is ∙ take-append_seam old.used ns in
-    let pairs : back.pairs ≡ old.pairs = pairs_back ∙ ap (take p) pairs_more ∙ ap (λ n. take n (old.pairs ++ ps)) p_is ∙ take-append_seam old.pairs ps in
-    λ j. record { used = used j; pairs = pairs j }

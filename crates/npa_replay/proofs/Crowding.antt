@@ -8,8 +8,9 @@ use Rattle.npa_sorts.specs.Subsorts.{Subsorts}
 use Rattle.npa_model.specs.declared.aim.Part.{Part}
 use Rattle.npa_model.specs.declared.run.Instance.{Instance}
 use Rattle.npa_model.specs.State.{State}
-use Rattle.npa_replay.specs.Choices.{HasMatch, taken, Can, AreAllCandidates, picked}
-use Rattle.npa_replay.specs.Groups.{AreDifferent}
+use Rattle.npa_match.specs.Matching.{HasMatch}
+use Rattle.npa_replay.specs.Choices.{taken, Can, AreAllCandidates, picked}
+use Rattle.npa_list.specs.Different.{AreDifferent}
 use Rattle.npa_replay.proofs.Choosing.{same_member, candidates_at}
 use Rattle.npa_replay.proofs.Members.{contains_cases, contains_head, contains_tail, get_same}
 use Rattle.npa_replay.proofs.Removing.{without, without_length, without_keeps}

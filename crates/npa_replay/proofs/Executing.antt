@@ -17,18 +17,10 @@ use Rattle.npa_model.specs.Instances.{AreGroundTerms, Starts}
 use Rattle.npa_model.specs.Aims.{at_start, at_step}
 use Rattle.npa_model.specs.State.{State, done_of, StepsTo, Steps}
 use Rattle.npa_model.proofs.InstanceLaws.{starting_instances}
+use Rattle.npa_model.proofs.Executions.{executions_same, executions_other}
 use Rattle.npa_replay.specs.declared.execution.Halt.{Halt}
 use Rattle.npa_replay.specs.declared.execution.Halt.TheVariants as halt
 use Rattle.npa_replay.specs.Executions.{IsAfter, Ends, HasRun, RunsThrough, halted}
-
-executions_push : (i k : ℕ) (xs : List ℕ) → executions i (xs ++ k ∷ []) ≡ executions i xs + cond (k == i) 1 0
-executions_push i k xs = fold_push (λ a x. a + cond (x == i) 1 0) 0 xs k
-
-executions_same : (i k : ℕ) (xs : List ℕ) → k ≡ i → executions i (xs ++ k ∷ []) ≡ executions i xs + 1
-executions_same i k xs e = executions_push i k xs ∙ ap (λ b. executions i xs + cond b 1 0) (eq-eqb k i e)
-
-executions_other : (i k : ℕ) (xs : List ℕ) → (k ≡ i → ⊥) → executions i (xs ++ k ∷ []) ≡ executions i xs
-executions_other i k xs n = executions_push i k xs ∙ ap (λ b. executions i xs + cond b 1 0) (ne_eqb k i n) ∙ omega arith
 
 none_done : (n i : ℕ) → slice_index (replicate n 0) i ≡ 0
 none_done n i = ⊎_elim

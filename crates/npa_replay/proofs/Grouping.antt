@@ -10,8 +10,10 @@ use Rattle.npa_term.specs.declared.term.Var.{Var as Variable}
 use Rattle.npa_model.specs.declared.aim.Part.{Part}
 use Rattle.npa_model.specs.declared.run.Instance.{Instance}
 use Rattle.npa_model.specs.State.{State}
-use Rattle.npa_replay.specs.Choices.{HasMatch, Can, IsMost, picked}
-use Rattle.npa_replay.specs.Groups.{part_variables, variable_keys, strand_keys, AreLinks, AreDifferent, IsClosed, HasChoice}
+use Rattle.npa_match.specs.Matching.{HasMatch}
+use Rattle.npa_replay.specs.Choices.{Can, IsMost, picked}
+use Rattle.npa_replay.specs.Groups.{part_variables, variable_keys, strand_keys, AreLinks, IsClosed, HasChoice}
+use Rattle.npa_list.specs.Different.{AreDifferent}
 use Rattle.npa_replay.proofs.Members.{contains_cases, contains_head, contains_tail}
 use Rattle.npa_replay.proofs.Joining.{AreApart, takes_apart, bindings, joined}
 use Rattle.npa_replay.proofs.Picking.{has_matcher, chosen_can, from_can, front_choice, choice_front, can_leaf}

@@ -7,7 +7,8 @@ use Rattle.std.proofs.lemmas.Bool.{eqb-true, cases_lt}
 use Rattle.std.proofs.lemmas.List.Elements.{Contains-append_left, Contains-append_cases, Contains-get_or}
 use Rattle.std.proofs.lemmas.Map.Views.{Contains-from_any}
 use Rattle.std.proofs.lemmas.Map.Steps.{length-le_from_distinct_below}
-use Rattle.npa_replay.specs.Groups.{AreDifferent, HasLinked, IsClosed, IsGrown}
+use Rattle.npa_replay.specs.Groups.{HasLinked, IsClosed, IsGrown}
+use Rattle.npa_list.specs.Different.{AreDifferent}
 use Rattle.npa_replay.proofs.Choosing.{same_member}
 use Rattle.npa_replay.proofs.Members.{contains_head, contains_tail, contains_one}
 

@@ -10,7 +10,8 @@ use Rattle.npa_model.specs.declared.aim.Part.{Part}
 use Rattle.npa_model.specs.declared.aim.Part.TheVariants as part
 use Rattle.npa_model.specs.declared.run.Instance.{Instance}
 use Rattle.npa_model.specs.State.{State}
-use Rattle.npa_replay.specs.Choices.{HasMatch, with_term, target_pairs}
+use Rattle.npa_match.specs.Matching.{HasMatch}
+use Rattle.npa_replay.specs.Choices.{with_term, target_pairs}
 use Rattle.npa_replay.proofs.Members.{contains_head}
 
 pub other_head : (op : Op) (ts : List Term) (t u : Term) → t ≡ App op ts → ((us : List Term) → u ≡ App op us → ⊥) → (o : Subsorts) → HasMatch o ((t, u) ∷ []) → ⊥

@@ -9,12 +9,13 @@ use Rattle.npa_sorts.specs.Subsorts.{Subsorts}
 use Rattle.npa_term.specs.declared.term.Var.{Var as Variable}
 use Rattle.npa_term.specs.declared.term.Term.{Term, Var, App}
 use Rattle.npa_term.specs.Bound.{same_var, value_of, applied}
+use Rattle.npa_term.specs.Parts.{image, least_sort}
 use Rattle.npa_term.specs.Same.{Same}
 use Rattle.npa_term.specs.Variables.{variables}
 use Rattle.npa_term.proofs.Induction.{Each, by_terms}
 use Rattle.npa_term.proofs.Rows.{applied_app, variables_at}
 use Rattle.npa_sorts.specs.Subsorts.{IsAtOrBelow}
-use Rattle.npa_match.specs.Matching.{Matches, first_variables, image, least_sort}
+use Rattle.npa_match.specs.Matching.{Matches, first_variables}
 use Rattle.npa_model.specs.declared.aim.Part.{Part}
 use Rattle.npa_model.specs.declared.aim.Part.TheVariants as part
 use Rattle.npa_model.specs.declared.run.Instance.{Instance}

@@ -10,29 +10,34 @@ use Rattle.npa_term.specs.declared.term.Term.{Term}
 use Rattle.npa_term.specs.Canonical.{canonical}
 use Rattle.npa_sig.specs.declared.protocol.Protocol.{Protocol}
 use Rattle.npa_sig.specs.Signature.{Signature}
-use Rattle.npa_sig.specs.Sorting.{is_sort, well_sorted}
+use Rattle.npa_sig.specs.Sorting.{is_sort, well_sorted, IsGroundTerm}
 use Rattle.npa_sig.specs.declared.fault.LeastFail.TheVariants.{Past}
 use Rattle.npa_sig.specs.Least.{IsTermOf, IsLeastOf}
 use Rattle.npa_model.specs.declared.aim.Part.{Part}
 use Rattle.npa_model.specs.declared.aim.Aim.{Aim}
 use Rattle.npa_model.specs.declared.run.Run.{Run}
-use Rattle.npa_model.specs.WellFormed.{AreSorts, IsWellFormedProtocol, IsWellFormedAim}
+use Rattle.npa_model.specs.WellFormed.{IsWellFormedAim}
+use Rattle.npa_sig.specs.WellFormed.{AreSorts, IsWellFormedProtocol}
 use Rattle.npa_rewrite.specs.declared.theory.Theory.{Theory}
 use Rattle.npa_rewrite.specs.Innermost.{normalized}
-use Rattle.npa_rewrite.specs.Rewriting.{AllCancel, PairsCommute}
+use Rattle.npa_rewrite.specs.Rewriting.{AllCancel}
+use Rattle.npa_sig.specs.Operators.{PairsCommute}
 use Rattle.npa_rewrite.proofs.Normalized.{same_form}
-use Rattle.npa_model.specs.Accepted.{IsAccepted, IsAcceptedTerm}
-use Rattle.npa_model.specs.Instances.{AreGroundTerms, IsGroundTerm, IsNormalTerm}
+use Rattle.npa_model.specs.Accepted.{IsAccepted}
+use Rattle.npa_rewrite.specs.Accepted.{IsAcceptedTerm}
+use Rattle.npa_model.specs.Instances.{AreGroundTerms}
+use Rattle.npa_rewrite.specs.Normal.{IsNormalTerm}
 use Rattle.npa_model.specs.Aims.{Meets, MeetsSomehow, Reaches, Misses}
 use Rattle.npa_model.specs.State.{State}
 use Rattle.npa_model.proofs.AimLaws.{meets_front, runs_or_breaks, breaks_once, reaches_or_misses, misses_once}
 use Rattle.npa_model.proofs.OneForm.{same_reaches, same_breaks, same_misses}
 use Rattle.npa_model.proofs.SentTerms.{sent_terms}
-use Rattle.npa_model.proofs.SortedTerms.{below_at, contained}
+use Rattle.npa_sig.proofs.SortedTerms.{below_at, contained}
 use Rattle.npa_replay.specs.declared.execution.Halt.{Halt}
 use Rattle.npa_replay.specs.declared.execution.Halt.TheVariants as halt
 use Rattle.npa_replay.specs.Executions.{HasRun, RunsThrough}
-use Rattle.npa_replay.specs.Choices.{HasGroundTerm, HaveGroundTerms, HasMatcher, Can, IsMost}
+use Rattle.npa_match.specs.Matching.{HasMatcher}
+use Rattle.npa_replay.specs.Choices.{HasGroundTerm, HaveGroundTerms, Can, IsMost}
 use Rattle.npa_replay.specs.declared.answer.Replay.{Replay}
 use Rattle.npa_replay.specs.declared.answer.Replay.TheVariants as replay
 use Rattle.npa_replay.specs.Replays.{IsTrueOf, OfNormalForms, Stops}

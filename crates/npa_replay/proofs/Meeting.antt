@@ -6,24 +6,28 @@ use Rattle.std.proofs.lemmas.List.Elements.{Contains-append_left, Contains-appen
 use Rattle.std.proofs.lemmas.Option.{same_Some, slice_get-get_or}
 use Rattle.npa_term.specs.declared.term.Term.{Term}
 use Rattle.npa_term.specs.Canonical.{canonical}
+use Rattle.npa_term.specs.Parts.{IsPart, least_sort as sort_of}
 use Rattle.npa_term.proofs.CanonicalLaws.{canonical-canonical}
 use Rattle.npa_sig.specs.declared.protocol.Strand.{Strand}
 use Rattle.npa_sig.specs.Signature.{Signature}
-use Rattle.npa_sig.specs.Sorting.{sort_of, all_below}
+use Rattle.npa_sig.specs.Sorting.{all_below}
 use Rattle.npa_model.specs.declared.aim.Part.{Part}
 use Rattle.npa_model.specs.declared.aim.Part.TheVariants as part
 use Rattle.npa_model.specs.declared.run.Instance.{Instance}
 use Rattle.npa_model.specs.declared.run.Run.{Run}
-use Rattle.npa_model.specs.Values.{under}
+use Rattle.npa_sig.specs.Values.{under}
 use Rattle.npa_model.specs.Runs.{executions}
-use Rattle.npa_match.specs.Matching.{IsPart}
 use Rattle.npa_model.specs.Accepted.{part_terms}
-use Rattle.npa_model.specs.Instances.{param_sorts, IsInstance, IsNormalTerm}
-use Rattle.npa_model.specs.WellFormed.{IsOwn, IsTermOver, IsWellFormedPart}
+use Rattle.npa_model.specs.Instances.{IsInstance}
+use Rattle.npa_sig.specs.Parameters.{param_sorts}
+use Rattle.npa_rewrite.specs.Normal.{IsNormalTerm}
+use Rattle.npa_model.specs.WellFormed.{IsWellFormedPart}
+use Rattle.npa_sig.specs.WellFormed.{IsOwn, IsTermOver}
 use Rattle.npa_model.specs.Aims.{Meets, nothing, known, strand, MeetsSomehow}
 use Rattle.npa_model.specs.State.{State, done_of}
 use Rattle.npa_model.proofs.InstanceLaws.{are_even}
-use Rattle.npa_replay.specs.Choices.{HasMatch, HasMatcher, with_values, with_term, target_pairs, Can, done, next}
+use Rattle.npa_match.specs.Matching.{HasMatch, HasMatcher}
+use Rattle.npa_replay.specs.Choices.{with_values, with_term, target_pairs, Can, done, next}
 use Rattle.npa_replay.proofs.Assigning.{HasNormalTerm, IsGoodPair, AreGood, assigned, matched}
 use Rattle.npa_replay.proofs.Members.{contains_cases, contains_head, contains_tail, contains_one, free_none, free_one}
 

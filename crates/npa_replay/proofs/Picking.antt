@@ -1,21 +1,21 @@
 -- Parts that can be met one after another, in any order, have a choice, and the other way round.
 use Rattle.std.specs.Prelude.{nat_eq}
-use Rattle.std.proofs.Common.{◌≡◌, true, false, cond, ℕ, zero, suc, ◌+◌, ◌<◌, ◌≤◌, ⊎_elim, List, [], ◌∷◌, ◌++◌, None, Some, take, drop, slice_get, Contains, refl, ap, sym, ◌∙◌, subst, arith}
+use Rattle.std.proofs.Common.{◌≡◌, true, false, cond, ℕ, zero, suc, ◌+◌, ◌<◌, ◌≤◌, ⊎_elim, List, [], ◌∷◌, ◌++◌, None, Some, take, drop, slice_get, Contains, refl, ap, sym, ◌∙◌, subst, arith, IfSome}
 use Rattle.std.proofs.lemmas.Bool.{eq-eqb, eqb-true, eqb-false, cases_lt}
 use Rattle.std.proofs.lemmas.Option.{same_Some, none-some}
 use Rattle.std.proofs.lemmas.List.Elements.{Contains-append_left, Contains-append_right, Contains-append_cases}
 use Rattle.npa_sorts.specs.Subsorts.{Subsorts}
 use Rattle.npa_term.specs.declared.term.Var.{Var as Variable}
 use Rattle.npa_term.specs.declared.term.Term.{Term}
-use Rattle.npa_match.specs.Matching.{Matches, IsMatcher}
+use Rattle.npa_match.specs.Matching.{HasMatch, HasMatcher, Matches, IsMatcher}
 use Rattle.npa_match.specs.Branches.{branches, first_of}
 use Rattle.npa_match.proofs.Answered.{first_answered, none_answered}
-use Rattle.std.proofs.Common.{IfSome}
 use Rattle.npa_model.specs.declared.aim.Part.{Part}
 use Rattle.npa_model.specs.declared.run.Instance.{Instance}
 use Rattle.npa_model.specs.State.{State}
-use Rattle.npa_replay.specs.Choices.{HasMatch, HasMatcher, taken, AreFree, IsTarget, target_pairs, Can, done, next, with_part, picked}
-use Rattle.npa_replay.specs.Groups.{AreDifferent, IsChoice, HasChoice}
+use Rattle.npa_replay.specs.Choices.{taken, AreFree, IsTarget, target_pairs, Can, done, next, with_part, picked}
+use Rattle.npa_replay.specs.Groups.{IsChoice, HasChoice}
+use Rattle.npa_list.specs.Different.{AreDifferent}
 use Rattle.npa_replay.proofs.Choosing.{occurs_in, occurs_first, matches_among, can_match, can_first}
 use Rattle.npa_replay.proofs.Members.{contains_cases, contains_head, contains_tail}
 

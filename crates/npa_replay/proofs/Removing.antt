@@ -4,7 +4,7 @@ use Rattle.std.proofs.Common.{◌≡◌, true, false, ℕ, zero, suc, ◌+◌, �
 use Rattle.std.proofs.lemmas.Bool.{eqb-true, eqb-false}
 use Rattle.std.proofs.lemmas.List.{take_all}
 use Rattle.std.proofs.lemmas.List.Elements.{Contains-get_or}
-use Rattle.npa_replay.specs.Groups.{AreDifferent}
+use Rattle.npa_list.specs.Different.{AreDifferent}
 use Rattle.npa_replay.proofs.Members.{contains_cases, contains_head, contains_tail}
 
 -- a list without the member at a place

@@ -8,10 +8,10 @@ use Rattle.npa_term.specs.declared.term.Term.{Term}
 use Rattle.npa_model.specs.declared.aim.Part.{Part}
 use Rattle.npa_model.specs.declared.run.Instance.{Instance}
 use Rattle.npa_model.specs.State.{State}
-use Rattle.npa_replay.specs.Choices.{HasMatch, taken, AreFree, target_pairs, Can, done, next, IsOpen, AreCandidates, AreAllCandidates, with_part, picked}
-use Rattle.npa_replay.specs.declared.choice.Choice.{Choice}
-use Rattle.npa_replay.proofs.Choosing.{same_member, can_match, can_take, can_first, open_candidate, candidates_at, given_back}
-use Rattle.npa_replay.specs.Groups.{AreDifferent}
+use Rattle.npa_match.specs.Matching.{HasMatch}
+use Rattle.npa_replay.specs.Choices.{taken, AreFree, target_pairs, Can, done, next, IsOpen, AreCandidates, AreAllCandidates, with_part, picked}
+use Rattle.npa_replay.proofs.Choosing.{same_member, can_match, can_take, can_first, open_candidate, candidates_at}
+use Rattle.npa_list.specs.Different.{AreDifferent}
 use Rattle.npa_replay.proofs.Members.{contains_cases, contains_head, contains_tail}
 use Rattle.npa_replay.proofs.Picking.{reordered}
 use Rattle.npa_replay.proofs.Removing.{without, without_in, without_or, without_different, without_not, without_is}
@@ -82,10 +82,10 @@ module _ (o : Subsorts) (instances : List Instance) (state : State) where
     pub rest_done : (used : List ℕ) (pairs : List (Term × Term)) → places ≡ [] → HasMatch o pairs → Rest places used pairs
     rest_done used pairs e m = subst (λ (ns : List ℕ). Can instances state (HasMatch o) (picked parts ns) used pairs) (sym e) (done used pairs m)
 
-    module _ (old now : Choice) (kept : now ≡ old) where
+    module _ (used : List ℕ) (pairs : List (Term × Term)) where
       -- a part none of whose candidates is open
       pub rest_closed : (j : ℕ) → j < length places → (k : ℕ) → k ≡ slice_index places j → (q : Part) (ms ns : List ℕ) → ms ≡ get_or candidates k ms → ns ≡ ms →
-          ((n : ℕ) → Contains ns n → IsOpen instances state o now.used now.pairs (get_or parts k q) n → ⊥) → Rest places old.used old.pairs → ⊥
+          ((n : ℕ) → Contains ns n → IsOpen instances state o used pairs (get_or parts k q) n → ⊥) → Rest places used pairs → ⊥
       rest_closed j m k k_is q ms ns ms_is same none c =
           let among : Contains places k = subst (λ i. Contains places i) (sym k_is) (Contains-get_or places j 0 m) in
           let within : k < length parts = inside k among in
@@ -93,11 +93,11 @@ module _ (o : Subsorts) (instances : List Instance) (state : State) where
           let place = picked_member parts places k (get_or parts k q) there among in
           let x = can_take o instances state c place.0 (get_or parts k q) place.1 in
           let good = subst (λ (xs : List ℕ). AreCandidates instances state o (get_or parts k q) xs) (sym same) (candidates_at o instances state parts candidates are k within (get_or parts k q) there ms ms_is) in
-          let y = open_candidate o instances state old.used old.pairs (get_or parts k q) ns good x.number x.target x.open_ in
-          subst (λ (h : Choice). IsOpen instances state o h.used h.pairs (get_or parts k q) y.number → ⊥) kept (none y.number y.among) y.open_
+          let y = open_candidate o instances state used pairs (get_or parts k q) ns good x.number x.target x.open_ in
+          none y.number y.among y.open_
 
       module _ (at : ℕ) (l : at < length places) (k : ℕ) (k_is : k ≡ slice_index places at) (others : List ℕ) (others_is : others ≡ take at places ++ drop (at + 1) places) (q : Part) (ms ns : List ℕ) (ms_is : ms ≡ get_or candidates k ms) (same : ns ≡ ms)
-          (index : ℕ) (was : Tried parts (picked parts others) old.used old.pairs k ns index) where
+          (index : ℕ) (was : Tried parts (picked parts others) used pairs k ns index) where
         abbrev p_ : Part
         p_ = get_or parts k q
 
@@ -136,46 +136,34 @@ module _ (o : Subsorts) (instances : List Instance) (state : State) where
             (λ later. contains_tail k others i (subst (λ (is : List ℕ). Contains is i) (sym others_without) later))
             (without_or places at i l h)
 
-        first_of : Rest places old.used old.pairs → Can instances state (HasMatch o) (p_ ∷ picked parts others) old.used old.pairs
-        first_of c = subst (λ (ps : List Part). Can instances state (HasMatch o) ps old.used old.pairs) whole
-            (reordered instances state o parts places (k ∷ others) different first_different first_in old.used old.pairs c)
+        first_of : Rest places used pairs → Can instances state (HasMatch o) (p_ ∷ picked parts others) used pairs
+        first_of c = subst (λ (ps : List Part). Can instances state (HasMatch o) ps used pairs) whole
+            (reordered instances state o parts places (k ∷ others) different first_different first_in used pairs c)
 
-        of_first : Can instances state (HasMatch o) (p_ ∷ picked parts others) old.used old.pairs → Rest places old.used old.pairs
-        of_first c = reordered instances state o parts (k ∷ others) places first_different different in_first old.used old.pairs
-            (subst (λ (ps : List Part). Can instances state (HasMatch o) ps old.used old.pairs) (sym whole) c)
+        of_first : Can instances state (HasMatch o) (p_ ∷ picked parts others) used pairs → Rest places used pairs
+        of_first c = reordered instances state o parts (k ∷ others) places first_different different in_first used pairs
+            (subst (λ (ps : List Part). Can instances state (HasMatch o) ps used pairs) (sym whole) c)
 
         -- all candidates were tried
-        pub rest_failed : length ns ≤ index → Rest places old.used old.pairs → ⊥
-        rest_failed past c = all_tried parts (picked parts others) old.used old.pairs k ns index was p_ there good past (first_of c)
+        pub rest_failed : length ns ≤ index → Rest places used pairs → ⊥
+        rest_failed past c = all_tried parts (picked parts others) used pairs k ns index was p_ there good past (first_of c)
 
-        pub on_closed : (IsOpen instances state o now.used now.pairs p_ (slice_index ns index) → ⊥) → Tried parts (picked parts others) old.used old.pairs k ns (index + 1)
+        pub on_closed : (IsOpen instances state o used pairs p_ (slice_index ns index) → ⊥) → Tried parts (picked parts others) used pairs k ns (index + 1)
         on_closed closed =
-            tried_next parts (picked parts others) old.used old.pairs k ns index was p_ there
-            (λ free c. subst (λ (h : Choice). IsOpen instances state o h.used h.pairs p_ (slice_index ns index) → ⊥) kept closed (record { free = free; matched = can_match o instances state c }))
+            tried_next parts (picked parts others) used pairs k ns index was p_ there
+            (λ free c. closed (record { free = free; matched = can_match o instances state c }))
 
-        module _ (with : Choice) (used : with.used ≡ now.used ++ taken p_ (slice_index ns index)) (pairs : with.pairs ≡ now.pairs ++ target_pairs instances state p_ (slice_index ns index)) where
-          used_old : with.used ≡ old.used ++ taken p_ (slice_index ns index)
-          used_old = used ∙ ap (λ (h : Choice). h.used ++ taken p_ (slice_index ns index)) kept
-
-          pairs_old : with.pairs ≡ old.pairs ++ target_pairs instances state p_ (slice_index ns index)
-          pairs_old = pairs ∙ ap (λ (h : Choice). h.pairs ++ target_pairs instances state p_ (slice_index ns index)) kept
-
-          pub on_met : index < length ns → AreFree now.used (taken p_ (slice_index ns index)) → Rest others with.used with.pairs → Rest places old.used old.pairs
+        module _ (more_used : List ℕ) (more_pairs : List (Term × Term)) (used_is : more_used ≡ used ++ taken p_ (slice_index ns index)) (pairs_is : more_pairs ≡ pairs ++ target_pairs instances state p_ (slice_index ns index)) where
+          pub on_met : index < length ns → AreFree used (taken p_ (slice_index ns index)) → Rest others more_used more_pairs → Rest places used pairs
           on_met here free c =
               of_first
-              (next p_ (picked parts others) old.used old.pairs (slice_index ns index) (good.targets (slice_index ns index) (Contains-get_or ns index 0 here))
-              (subst (λ (h : Choice). AreFree h.used (taken p_ (slice_index ns index))) kept free)
-              (subst (λ (us : List ℕ). Rest others us (old.pairs ++ target_pairs instances state p_ (slice_index ns index))) used_old
-              (subst (λ (ps : List (Term × Term)). Rest others with.used ps) pairs_old c)))
+              (next p_ (picked parts others) used pairs (slice_index ns index) (good.targets (slice_index ns index) (Contains-get_or ns index 0 here)) free
+              (subst (λ (us : List ℕ). Rest others us (pairs ++ target_pairs instances state p_ (slice_index ns index))) used_is
+              (subst (λ (ps : List (Term × Term)). Rest others more_used ps) pairs_is c)))
 
-          pub on_missed : (Rest others with.used with.pairs → ⊥) → Tried parts (picked parts others) old.used old.pairs k ns (index + 1)
+          pub on_missed : (Rest others more_used more_pairs → ⊥) → Tried parts (picked parts others) used pairs k ns (index + 1)
           on_missed missed =
-              tried_next parts (picked parts others) old.used old.pairs k ns index was p_ there
+              tried_next parts (picked parts others) used pairs k ns index was p_ there
               (λ free c. missed
-              (subst (λ (us : List ℕ). Rest others us with.pairs) (sym used_old)
-              (subst (λ (ps : List (Term × Term)). Rest others (old.used ++ taken p_ (slice_index ns index)) ps) (sym pairs_old) c)))
-
-          pub on_back : (after back : Choice) → after ≡ with → (u p : ℕ) → u ≡ length old.used → p ≡ length old.pairs → back.used ≡ take u after.used → back.pairs ≡ take p after.pairs → back ≡ old
-          on_back after back stays u p u_is p_is used_back pairs_back =
-              given_back old after back u p (taken p_ (slice_index ns index)) (target_pairs instances state p_ (slice_index ns index)) u_is p_is
-              (ap (λ (h : Choice). h.used) stays ∙ used_old) (ap (λ (h : Choice). h.pairs) stays ∙ pairs_old) used_back pairs_back
+              (subst (λ (us : List ℕ). Rest others us more_pairs) (sym used_is)
+              (subst (λ (ps : List (Term × Term)). Rest others (used ++ taken p_ (slice_index ns index)) ps) (sym pairs_is) c)))

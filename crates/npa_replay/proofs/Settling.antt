@@ -12,6 +12,7 @@ use Rattle.npa_term.specs.declared.term.Var.{Var as Variable}
 use Rattle.npa_term.specs.declared.term.Term.{Term, Var, App}
 use Rattle.npa_term.specs.Bound.{applied}
 use Rattle.npa_term.specs.Canonical.{canonical}
+use Rattle.npa_term.specs.Parts.{IsPart, whole, inside, least_sort}
 use Rattle.npa_term.specs.Same.{Same}
 use Rattle.npa_term.specs.Variables.{variables}
 use Rattle.npa_term.proofs.GroundLaws.{ground_canonical}
@@ -19,11 +20,11 @@ use Rattle.npa_term.proofs.Induction.{Each, by_terms}
 use Rattle.npa_term.proofs.Rows.{variables_at}
 use Rattle.npa_term.proofs.SameLaws.{same_sym}
 use Rattle.npa_sig.specs.Signature.{Signature}
-use Rattle.npa_sig.specs.Sorting.{is_below, sort_of, all_below, well_sorted}
-use Rattle.npa_match.specs.Matching.{IsPart, whole, inside, least_sort}
+use Rattle.npa_sig.specs.Sorting.{is_below, all_below, well_sorted, IsGroundTerm}
 use Rattle.npa_rewrite.specs.declared.theory.Theory.{Theory}
 use Rattle.npa_rewrite.specs.Innermost.{normalized}
-use Rattle.npa_rewrite.specs.Rewriting.{AllCancel, PairsCommute, IsNormal, Steps, none, more}
+use Rattle.npa_rewrite.specs.Rewriting.{AllCancel, IsNormal, Steps, none, more}
+use Rattle.npa_sig.specs.Operators.{PairsCommute}
 use Rattle.npa_rewrite.specs.Stepping.{HasNoMatch}
 use Rattle.npa_rewrite.proofs.Kept.{keeps_sort, steps_ground}
 use Rattle.npa_rewrite.proofs.Normalized.{normalized_form, own_form}
@@ -31,21 +32,22 @@ use Rattle.npa_rewrite.proofs.Parts.{normal_part}
 use Rattle.npa_rewrite.proofs.Root.{leaf_name}
 use Rattle.npa_rewrite.proofs.Sorted.{form_sorted, value_sorted}
 use Rattle.npa_rewrite.proofs.Under.{normal_app}
-use Rattle.npa_model.specs.Values.{under}
-use Rattle.npa_model.specs.Accepted.{IsAcceptedTerm}
-use Rattle.npa_model.specs.Instances.{IsGroundTerm, IsNormalTerm}
-use Rattle.npa_model.specs.WellFormed.{IsOwn}
-use Rattle.npa_model.proofs.Rows.{under_at}
-use Rattle.npa_model.proofs.SortedTerms.{IsSorted, arguments_sorted, below_at, below_through, contained, sort_canonical, under_ground}
+use Rattle.npa_sig.specs.Values.{under}
+use Rattle.npa_rewrite.specs.Accepted.{IsAcceptedTerm}
+use Rattle.npa_rewrite.specs.Normal.{IsNormalTerm}
+use Rattle.npa_sig.specs.WellFormed.{IsOwn}
+use Rattle.npa_sig.proofs.Under.{under_at}
+use Rattle.npa_sig.proofs.SortedTerms.{IsSorted, arguments_sorted, below_at, below_through, contained, sort_canonical, under_ground}
 use Rattle.npa_replay.specs.Choices.{HasGroundTerm}
-use Rattle.npa_replay.proofs.Assigning.{HasNormalTerm, as_bound, bindings, bound_below, least_is}
+use Rattle.npa_sig.proofs.Bindings.{as_bound, bindings, bound_below}
+use Rattle.npa_replay.proofs.Assigning.{HasNormalTerm}
 use Rattle.npa_replay.proofs.Meeting.{Keeps}
 use Rattle.npa_replay.proofs.Members.{contains_head, contains_tail}
 
 -- what keeps terms of a signature normal
 pub record Stable (th : Theory) (sig : Signature) : Type 0 where
   pub parts : (t u : Term) → IsPart t u → normalized th u ≡ canonical u → normalized th t ≡ canonical t
-  pub values : (sorts : List ℕ) (values : List Term) → all_below sig (map sort_of values) sorts ≡ true → ((t : Term) → Contains values t → IsNormalTerm (normalized th) sig t) →
+  pub values : (sorts : List ℕ) (values : List Term) → all_below sig (map least_sort values) sorts ≡ true → ((t : Term) → Contains values t → IsNormalTerm (normalized th) sig t) →
       Keeps (normalized th) (IsAcceptedTerm th) sig sorts values
   pub forms : (t : Term) → IsGroundTerm sig t → IsNormalTerm (normalized th) sig (normalized th t) × (canonical (normalized th t) ≡ normalized th t)
   pub sorts : (s : ℕ) → HasGroundTerm sig s → HasNormalTerm (normalized th) sig s
@@ -70,21 +72,20 @@ module _ (th : Theory) (cancel : AllCancel th) (pairs : PairsCommute th.sig) whe
   steps_below none = inl refl
   steps_below (more u v p q) = at_or_below_trans (keeps_sort th u v cancel q) (steps_below p)
 
-  form_below : (t : Term) → is_below th.sig (sort_of (normalized th t)) (sort_of t) ≡ true
+  form_below : (t : Term) → is_below th.sig (least_sort (normalized th t)) (least_sort t) ≡ true
   form_below t =
       let reached = steps_below (normalized_form th cancel t).reached in
-      (decides th.sig.sorts (sort_of (normalized th t)) (sort_of t)).1
-      (subst (λ n. IsAtOrBelow th.sig.sorts n (sort_of t)) (least_is (normalized th t))
-      (subst (λ n. IsAtOrBelow th.sig.sorts (least_sort (normalized th t)) n) (least_is (canonical t) ∙ sort_canonical th.sig t) reached))
+      (decides th.sig.sorts (least_sort (normalized th t)) (least_sort t)).1
+      (subst (λ n. IsAtOrBelow th.sig.sorts (least_sort (normalized th t)) n) (sort_canonical th.sig t) reached)
 
   sort_term : (s : ℕ) → HasGroundTerm th.sig s → HasNormalTerm (normalized th) th.sig s
   sort_term s h = record {
     term = normalized th h.term;
     good = (form_good h.term h.good).0;
-    below = below_through th.sig (sort_of (normalized th h.term)) (sort_of h.term) s (form_below h.term) h.below;
+    below = below_through th.sig (least_sort (normalized th h.term)) (least_sort h.term) s (form_below h.term) h.below;
   }
 
-  module _ (sorts : List ℕ) (values : List Term) (below : all_below th.sig (map sort_of values) sorts ≡ true) (normal : (t : Term) → Contains values t → IsNormalTerm (normalized th) th.sig t) where
+  module _ (sorts : List ℕ) (values : List Term) (below : all_below th.sig (map least_sort values) sorts ≡ true) (normal : (t : Term) → Contains values t → IsNormalTerm (normalized th) th.sig t) where
     abbrev Stays : Term → Type 0
     Stays t = IsSorted th.sig t → IsOwn sorts t → IsAcceptedTerm th t → IsNormal th (under values t)
 
@@ -110,7 +111,7 @@ module _ (th : Theory) (cancel : AllCancel th) (pairs : PairsCommute th.sig) whe
         let t = App op ts in
         let ground = under_ground th.sig sorts values below (λ u h. (normal u h).term) t (record { sorted = s; own = own }) in
         accepted t whole (λ v is. cc) e c (record {
-          first = bindings th.sig sorts 0 sorts values;
+          first = bindings 0 sorts values;
           second = by_;
           first_sorts = record {
             sorted = λ v h.

@@ -4,26 +4,15 @@
 use Rattle.std.specs.Prelude.{◌≡◌, true, ℕ, ◌+◌, ◌<◌, ◌≤◌, List, [], ◌∷◌, ◌++◌, Option, None, Some, slice_get, length, take, zip, Contains}
 use Rattle.std.specs.List.{AllZip}
 use Rattle.npa_sorts.specs.Subsorts.{Subsorts}
-use Rattle.npa_term.specs.declared.term.Var.{Var as Variable}
 use Rattle.npa_term.specs.declared.term.Term.{Term}
-use Rattle.npa_match.specs.Matching.{Matches, IsMatcher}
+use Rattle.npa_match.specs.Matching.{HasMatch, HasMatcher}
 use Rattle.npa_model.specs.declared.aim.Part.{Part}
 use Rattle.npa_model.specs.declared.aim.Part.TheVariants as part
 use Rattle.npa_model.specs.declared.run.Instance.{Instance}
 use Rattle.npa_sig.specs.Signature.{Signature}
-use Rattle.npa_sig.specs.Sorting.{is_below, sort_of}
-use Rattle.npa_model.specs.Instances.{IsGroundTerm}
+use Rattle.npa_sig.specs.Sorting.{is_below, IsGroundTerm}
+use Rattle.npa_term.specs.Parts.{least_sort as sort_of}
 use Rattle.npa_model.specs.State.{State, done_of}
-
--- some substitution matches the pairs
-pub record HasMatch (o : Subsorts) (pairs : List (Term × Term)) : Type 0 where
-  pub by_ : List (Variable × Term)
-  pub matches : Matches o pairs by_
-
--- some matcher of the pairs, which binds their variables alone
-pub record HasMatcher (o : Subsorts) (pairs : List (Term × Term)) : Type 0 where
-  pub by_ : List (Variable × Term)
-  pub is : IsMatcher o pairs by_
 
 -- the instances that a part's target takes: none is left for another part
 abbrev pub taken : Part → ℕ → List ℕ

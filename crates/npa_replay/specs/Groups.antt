@@ -1,7 +1,8 @@
 -- Parts of an aim that may hinder each other, since a variable occurs in both or they ask for the same
 -- instances, and targets for some of the parts at once (constraint graphs: Freuder 1982).
-use Rattle.std.specs.Prelude.{◌≡◌, ⊤, Bool, true, unwrap_or, ℕ, ◌+◌, ◌*◌, ◌≤◌, List, [], ◌∷◌, ◌++◌, Some, map, slice_get, length, Contains}
+use Rattle.std.specs.Prelude.{◌≡◌, Bool, true, unwrap_or, ℕ, ◌+◌, ◌*◌, ◌≤◌, List, [], ◌∷◌, ◌++◌, Some, map, slice_get, length, Contains}
 use Rattle.std.specs.List.{flat_map}
+use Rattle.npa_list.specs.Different.{AreDifferent}
 use Rattle.npa_sorts.specs.Subsorts.{Subsorts}
 use Rattle.npa_term.specs.declared.term.Var.{Var as Variable}
 use Rattle.npa_term.specs.declared.term.Term.{Term}
@@ -42,11 +43,6 @@ HasSharers own keys ns = (j key : ℕ) (ls : List ℕ) → slice_get keys j ≡ 
 pub record AreLinks (keys links : List (List ℕ)) : Type 0 where
   pub even : length links ≡ length keys
   pub every : (i : ℕ) (own ns : List ℕ) → slice_get keys i ≡ Some own → slice_get links i ≡ Some ns → HasSharers own keys ns
-
--- no number stands twice
-abbrev pub AreDifferent : List ℕ → Type 0
-AreDifferent [] = ⊤
-AreDifferent (n ∷ ns) = (Contains ns n → ⊥) × AreDifferent ns
 
 -- the places up to `k` to which place i is linked are among these
 abbrev pub HasLinked : List (List ℕ) → ℕ → List ℕ → ℕ → Type 0

@@ -1,4 +1,5 @@
-pub mod Replays
-pub mod Executions
 pub mod Choices
+pub mod Executions
 pub mod Groups
+pub mod Held
+pub mod Replays

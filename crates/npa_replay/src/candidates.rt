@@ -1,11 +1,12 @@
 ghost use Rattle.std.specs.Prelude.{◌≡◌, ◌<◌, ◌^◌, ℕ, [], ◌∷◌, false, List, length, IsTrue, IfOk};
 ghost use Rattle.npa_sorts.specs.Subsorts.{Subsorts};
 ghost use Rattle.npa_term.specs.declared.term.Term.{Term, App};
-ghost use Rattle.npa_replay.specs.Choices.{AreAllCandidates, AreCandidates, HasMatch, IsTarget, target_pairs};
+ghost use Rattle.npa_match.specs.Matching.{HasMatch};
+ghost use Rattle.npa_replay.specs.Choices.{AreAllCandidates, AreCandidates, IsTarget, target_pairs};
 
-use crate::scene::{Scene, add_pairs, is_target};
+use crate::scene::{Scene, is_target, pairs_at};
 use npa_list::List;
-use npa_match::find;
+use npa_match::has_match;
 use npa_model::Part;
 use npa_term::{NoMemory, Op, Term};
 use std::alloc::Global;
@@ -24,7 +25,7 @@ pub(crate) fn all_candidates(alloc: Global, scene: &Scene<'_>) -> Result<Vec<Lis
 }
 
 // The targets that the part's terms match.
-fn candidates(alloc: Global, scene: &Scene<'_>, part: &Part) -> Result<List<usize>, NoMemory>
+fn candidates<'a>(alloc: Global, scene: &Scene<'a>, part: &'a Part) -> Result<List<usize>, NoMemory>
     requires few { length scene.now.instances.now < 2 ^ 32 }
     requires counted { length scene.now.state.now.executed ≡ length scene.now.instances.now }
     ensures { IfOk result (λ found. AreCandidates scene.now.instances.now scene.now.state.now scene.now.sorts.now part.now found) }
@@ -49,10 +50,10 @@ fn numbers(scene: &Scene<'_>, part: &Part) -> usize
 }
 
 // Whether the number is that of a target that the part's terms match.
-fn is_candidate(
+fn is_candidate<'a>(
     alloc: Global,
-    scene: &Scene<'_>,
-    part: &Part,
+    scene: &Scene<'a>,
+    part: &'a Part,
     place: usize,
 ) -> Result<bool, NoMemory>
     requires few { length scene.now.instances.now < 2 ^ 32 }
@@ -63,10 +64,8 @@ fn is_candidate(
     if !is_target(scene, part, place) || !may_match(scene, part, place) {
         return Ok(false);
     }
-    let mut pairs = List::new(alloc);
-    add_pairs(alloc, &mut pairs, scene, part, place)?;
-    let found = find(alloc, scene.sorts, &pairs)?;
-    Ok(found.is_some())
+    let pairs = pairs_at(alloc, scene, part, place)?;
+    has_match(alloc, scene.sorts, pairs.as_slice())
 }
 
 // A test without memory: a known part is matched by terms of its own operator alone.

@@ -1,79 +1,129 @@
-ghost use Rattle.std.specs.Prelude.{◌≡◌, ◌<◌, ◌^◌, ◌↔◌, ◌++◌, ℕ, [], false, length, take, Contains, IsTrue, IfOk, OnOk};
-ghost use Rattle.npa_replay.specs.Choices.{AreFree, HasMatch, HasMatcher, IsOpen, taken, target_pairs};
+ghost use Rattle.std.specs.Prelude.{◌≡◌, ◌↔◌, ◌≤◌, ◌++◌, ℕ, [], ◌∷◌, None, false, true, length, Contains, List as ListOf, IsTrue, IfOk, IfSome, OnOk};
+ghost use Rattle.npa_term.specs.declared.term.Term.{Term as TermOf};
+ghost use Rattle.npa_term.specs.declared.term.Var.{Var as Variable};
+ghost use Rattle.npa_match.specs.Branches.{after_pairs, branches};
+ghost use Rattle.npa_match.specs.Matching.{HasMatch, bound_pairs, read_pairs};
+ghost use Rattle.npa_replay.specs.Choices.{AreFree, IsOpen, taken, target_pairs};
+ghost use Rattle.npa_sorts.specs.Subsorts.{Subsorts};
+ghost use Rattle.npa_replay.specs.Held.{IsHeld};
 
-use crate::scene::{Scene, add_pairs};
+use crate::scene::{Scene, pairs_at};
 use npa_list::List;
-use npa_match::find;
+use npa_match::{Bindings, extend, match_once};
 use npa_model::Part;
-use npa_term::{NoMemory, TermPairs};
+use npa_sorts::Sorts;
+use npa_term::{NoMemory, Term};
 use std::alloc::Global;
 
 /// The targets that are taken for parts, one after another: the instances among them, and the
-/// pairs of terms that are to be equal.
+/// pairs of terms that are to be equal, with a matcher of all of them as a witness.
 #[derive(Drop)]
-pub(crate) struct Choice {
+pub(crate) struct Choice<'a> {
     pub used: List<usize>,
-    pub pairs: TermPairs,
+    pub pairs: List<(&'a Term, &'a Term)>,
+    pub bound: Bindings<'a>,
+    /// No commutative operator stands in the parts: there is no other matcher.
+    pub once: bool,
 }
 
-impl Choice {
+impl<'a> Choice<'a> {
     /// Nothing is taken.
-    pub(crate) fn new(alloc: Global) -> Choice
+    pub(crate) fn new(alloc: Global) -> Choice<'a>
         ensures used { result.used ≡ [] }
-        ensures pairs { result.pairs ≡ [] }
+        ensures pairs { read_pairs result.pairs ≡ [] }
+        ensures held { (o : Subsorts) → IsHeld o result }
     {
         Choice {
             used: List::new(alloc),
             pairs: List::new(alloc),
+            bound: List::new(alloc),
+            once: true,
         }
     }
 }
 
-/// Takes a target for a part where it is free and its pairs can be matched beside those that are
-/// there; else the choice stays as it was.
-pub(crate) fn take_target(
+/// What comes of a choice by a further target for a part, where that is free and its pairs can be
+/// matched beside those that are there.
+pub(crate) fn take_target<'a>(
     alloc: Global,
-    scene: &Scene<'_>,
-    part: &Part,
+    scene: &Scene<'a>,
+    part: &'a Part,
     place: usize,
-    choice: &mut Choice,
+    choice: &Choice<'a>,
+) -> Result<Option<Choice<'a>>, NoMemory>
+    requires held { IsHeld scene.now.sorts.now choice.now }
+    ensures used { IfOk result (λ found. IfSome found (λ more. more.used ≡ choice.now.used ++ taken part.now place)) }
+    ensures pairs { IfOk result (λ found. IfSome found (λ more. read_pairs more.pairs ≡ read_pairs choice.now.pairs ++ target_pairs scene.now.instances.now scene.now.state.now part.now place)) }
+    ensures free { IfOk result (λ found. IfSome found (λ more. AreFree choice.now.used (taken part.now place))) }
+    ensures held { IfOk result (λ found. IfSome found (λ more. IsHeld scene.now.sorts.now more)) }
+    ensures closed { IfOk result (λ found. found ≡ None → IsOpen scene.now.instances.now scene.now.state.now scene.now.sorts.now choice.now.used (read_pairs choice.now.pairs) part.now place → ⊥) }
+{
+    if !is_free(choice.used.as_slice(), part, place) {
+        return Ok(None);
+    }
+    let more = pairs_at(alloc, scene, part, place)?;
+    let Some(bound) = witness(alloc, scene.sorts, choice, more.as_slice())? else {
+        return Ok(None);
+    };
+    let mut used = List::from_slice(alloc, choice.used.as_slice())?;
+    take_instance(&mut used, part, place)?;
+    let mut pairs = List::from_slice(alloc, choice.pairs.as_slice())?;
+    pairs.extend_from_slice(more.as_slice())?;
+    let once = stays_once(choice.once, more.as_slice());
+    Ok(Some(Choice {
+        used,
+        pairs,
+        bound,
+        once,
+    }))
+}
+
+// Whether no commutative operator stood in the parts, nor stands in more of them.
+fn stays_once(once: bool, more: &[(&Term, &Term)]) -> bool
+    ensures { IsTrue result → (once ≡ true) × ((o : Subsorts) (s : ListOf (Variable × TermOf)) → length (after_pairs o (read_pairs more.now) s) ≤ 1) }
+{
+    once && match_once(more)
+}
+
+/// Whether a target is free and its pairs can be matched beside those of a choice.
+pub(crate) fn is_open<'a>(
+    alloc: Global,
+    scene: &Scene<'a>,
+    part: &'a Part,
+    place: usize,
+    choice: &Choice<'a>,
 ) -> Result<bool, NoMemory>
-    ensures used { IfOk result (λ b. IsTrue b → choice.new.used ≡ choice.old.used ++ taken part.now place) }
-    ensures pairs { IfOk result (λ b. IsTrue b → choice.new.pairs ≡ choice.old.pairs ++ target_pairs scene.now.instances.now scene.now.state.now part.now place) }
-    ensures free { IfOk result (λ b. IsTrue b → AreFree choice.old.used (taken part.now place)) }
-    ensures matched { IfOk result (λ b. IsTrue b → HasMatcher scene.now.sorts.now choice.new.pairs) }
-    ensures kept { IfOk result (λ b. b ≡ false → choice.new ≡ choice.old) }
-    ensures closed { IfOk result (λ b. b ≡ false → IsOpen scene.now.instances.now scene.now.state.now scene.now.sorts.now choice.old.used choice.old.pairs part.now place → ⊥) }
+    requires held { IsHeld scene.now.sorts.now choice.now }
+    ensures closed { IfOk result (λ b. b ≡ false → IsOpen scene.now.instances.now scene.now.state.now scene.now.sorts.now choice.now.used (read_pairs choice.now.pairs) part.now place → ⊥) }
 {
     if !is_free(choice.used.as_slice(), part, place) {
         return Ok(false);
     }
-    let before = choice.pairs.len();
-    add_pairs(alloc, &mut choice.pairs, scene, part, place)?;
-    if !has_match(alloc, scene, &choice.pairs)? {
-        shorten(&mut choice.pairs, before);
-        return Ok(false);
+    let more = pairs_at(alloc, scene, part, place)?;
+    Ok(witness(alloc, scene.sorts, choice, more.as_slice())?.is_some())
+}
+
+// A matcher of the pairs of a choice and of more. The choice's own is extended where it can be; all
+// pairs are matched anew only where that fails and there may be others.
+fn witness<'a>(
+    alloc: Global,
+    sorts: &Sorts,
+    choice: &Choice<'a>,
+    more: &[(&'a Term, &'a Term)],
+) -> Result<Option<Bindings<'a>>, NoMemory>
+    requires { IsHeld sorts.now choice.now }
+    ensures found { IfOk result (λ found. IfSome found (λ s. Contains (branches sorts.now (read_pairs choice.now.pairs ++ read_pairs more.now)) (bound_pairs s))) }
+    ensures none { IfOk result (λ found. found ≡ None → HasMatch sorts.now (read_pairs choice.now.pairs ++ read_pairs more.now) → ⊥) }
+{
+    if let Some(bound) = extend(alloc, sorts, choice.bound.as_slice(), more)? {
+        return Ok(Some(bound));
     }
-    take_instance(&mut choice.used, part, place)?;
-    Ok(true)
-}
-
-/// Gives back the targets behind so many instances and pairs.
-pub(crate) fn give_back(choice: &mut Choice, used: usize, pairs: usize)
-    ensures used { choice.new.used ≡ take used choice.old.used }
-    ensures pairs { choice.new.pairs ≡ take pairs choice.old.pairs }
-{
-    shorten(&mut choice.used, used);
-    shorten(&mut choice.pairs, pairs);
-}
-
-// Whether the pairs can be matched.
-fn has_match(alloc: Global, scene: &Scene<'_>, pairs: &TermPairs) -> Result<bool, NoMemory>
-    ensures matched { IfOk result (λ b. IsTrue b → HasMatcher scene.now.sorts.now pairs.now) }
-    ensures none { IfOk result (λ b. b ≡ false → HasMatch scene.now.sorts.now pairs.now → ⊥) }
-{
-    let found = find(alloc, scene.sorts, pairs)?;
-    Ok(found.is_some())
+    if choice.once {
+        return Ok(None);
+    }
+    let mut pairs = List::from_slice(alloc, choice.pairs.as_slice())?;
+    pairs.extend_from_slice(more)?;
+    extend(alloc, sorts, &[], pairs.as_slice())
 }
 
 // Whether the part takes no instance that is used.
@@ -103,13 +153,4 @@ fn take_instance(used: &mut List<usize>, part: &Part, place: usize) -> Result<()
         Part::Strand { .. } => used.push(place)?,
     }
     Ok(())
-}
-
-// Takes members off behind the first so many.
-fn shorten<T: Drop>(list: &mut List<T>, len: usize)
-    ensures { list.new ≡ take len list.old }
-{
-    while list.len() > len {
-        list.pop();
-    }
 }

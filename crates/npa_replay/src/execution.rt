@@ -2,7 +2,8 @@ ghost use Rattle.std.specs.Prelude.{◌≡◌, ◌<◌, ◌^◌, [], length};
 ghost use Rattle.npa_rewrite.specs.Innermost.{normalized};
 ghost use Rattle.npa_rewrite.specs.Rewriting.{AllCancel};
 ghost use Rattle.npa_model.specs.State.{AreCountable};
-ghost use Rattle.npa_model.specs.WellFormed.{IsWellFormedProtocol, IsWellFormedRun};
+ghost use Rattle.npa_model.specs.WellFormed.{IsWellFormedRun};
+ghost use Rattle.npa_sig.specs.WellFormed.{IsWellFormedProtocol};
 ghost use Rattle.npa_replay.specs.Executions.{IsAfter, Ends, RunsThrough, halted};
 
 use npa_model::{Cause, Instances, Run, RunFail, RunState, step_run};

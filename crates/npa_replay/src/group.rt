@@ -1,5 +1,6 @@
 ghost use Rattle.std.specs.Prelude.{◌≡◌, ◌<◌, ◌≤◌, ℕ, [], ◌∷◌, length, slice_index, Contains, IfOk, OnOk};
-ghost use Rattle.npa_replay.specs.Groups.{AreDifferent, HasLinked, IsClosed, IsGrown};
+ghost use Rattle.npa_replay.specs.Groups.{HasLinked, IsClosed, IsGrown};
+ghost use Rattle.npa_list.specs.Different.{AreDifferent};
 
 use crate::choice::holds;
 use npa_list::List;

@@ -1,6 +1,6 @@
 ghost use Rattle.std.specs.Prelude.{◌≡◌, ◌↔◌, ℕ, false, Contains, IsTrue, IfOk};
-ghost use Rattle.npa_sig.specs.Least.{HaveSorts};
-ghost use Rattle.npa_model.specs.WellFormed.{AreSorts};
+ghost use Rattle.npa_sig.specs.Operators.{HaveSorts};
+ghost use Rattle.npa_sig.specs.WellFormed.{AreSorts};
 ghost use Rattle.npa_replay.specs.Choices.{HasGroundTerm, HaveGroundTerms};
 
 use npa_sig::{LeastFail, Sig};

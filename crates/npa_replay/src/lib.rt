@@ -16,8 +16,3 @@ mod search;
 
 pub use answer::Replay;
 pub use replaying::replay;
-
-#[cfg(test)]
-mod search_tests;
-#[cfg(test)]
-mod tests;

@@ -1,6 +1,7 @@
 ghost use Rattle.std.specs.Prelude.{◌≡◌, ◌<◌, ◌^◌, [], length, IfOk};
 ghost use Rattle.npa_rewrite.specs.Rewriting.{AllCancel};
-ghost use Rattle.npa_model.specs.WellFormed.{IsWellFormedProtocol, IsWellFormedAim, IsWellFormedRun};
+ghost use Rattle.npa_model.specs.WellFormed.{IsWellFormedAim, IsWellFormedRun};
+ghost use Rattle.npa_sig.specs.WellFormed.{IsWellFormedProtocol};
 ghost use Rattle.npa_replay.specs.Choices.{IsMost};
 ghost use Rattle.npa_replay.specs.Replays.{IsTrueOf, OfNormalForms, Stops};
 

@@ -1,6 +1,7 @@
 ghost use Rattle.std.specs.Prelude.{◌≡◌, ◌<◌, ◌≤◌, ℕ, [], ◌∷◌, false, length, slice_index, Contains, IsTrue};
-ghost use Rattle.npa_replay.specs.Choices.{AreAllCandidates, Can, HasMatch, picked, taken};
-ghost use Rattle.npa_replay.specs.Groups.{AreDifferent};
+ghost use Rattle.npa_match.specs.Matching.{HasMatch};
+ghost use Rattle.npa_replay.specs.Choices.{AreAllCandidates, Can, picked, taken};
+ghost use Rattle.npa_list.specs.Different.{AreDifferent};
 
 use crate::choice::holds;
 use crate::scene::{Scene, place_at};

@@ -1,11 +1,12 @@
-ghost use Rattle.std.specs.Prelude.{◌≡◌, ◌<◌, ◌^◌, ◌↔◌, ◌++◌, ℕ, [], ◌∷◌, length, slice_index, zip, Contains, IsTrue, OnOk};
+ghost use Rattle.std.specs.Prelude.{◌≡◌, ◌<◌, ◌^◌, ◌↔◌, ℕ, [], ◌∷◌, length, slice_index, zip, Contains, IfOk, IsTrue};
+ghost use Rattle.npa_match.specs.Matching.{read_pairs};
 ghost use Rattle.npa_replay.specs.Choices.{AreAllCandidates, IsAt, IsTarget, target_pairs};
 ghost use Rattle.npa_model.specs.State.{done_of};
 
 use npa_list::List;
 use npa_model::{Instances, Part, RunState};
 use npa_sorts::Sorts;
-use npa_term::{NoMemory, Term, TermPairs, copy};
+use npa_term::{NoMemory, Term};
 use std::alloc::Global;
 
 /// What the parts of an aim are met by: the instances of a run, and the state in which it ends.
@@ -69,43 +70,52 @@ pub(crate) fn place_at(
     places[at]
 }
 
-/// Adds the pairs of terms that are to be equal where the part is met by the target.
-pub(crate) fn add_pairs(
+/// The pairs of terms that are to be equal where the part is met by the target.
+pub(crate) fn pairs_at<'a>(
     alloc: Global,
-    pairs: &mut TermPairs,
-    scene: &Scene<'_>,
-    part: &Part,
+    scene: &Scene<'a>,
+    part: &'a Part,
     place: usize,
-) -> Result<(), NoMemory>
-    ensures { OnOk result (pairs.new ≡ pairs.old ++ target_pairs scene.now.instances.now scene.now.state.now part.now place) }
+) -> Result<List<(&'a Term, &'a Term)>, NoMemory>
+    ensures { IfOk result (λ pairs. read_pairs pairs ≡ target_pairs scene.now.instances.now scene.now.state.now part.now place) }
 {
     match part {
         Part::Known(t) => match scene.state.sent().get(place) {
-            Some(u) => add_pair(alloc, pairs, t, u),
-            None => Ok(()),
+            Some(u) => one_pair(alloc, t, u),
+            None => Ok(List::new(alloc)),
         },
         Part::Strand { args, .. } => match scene.instances.get(place) {
-            Some(instance) => add_all(alloc, pairs, args.as_slice(), instance.args.as_slice()),
-            None => Ok(()),
+            Some(instance) => pairs_of(alloc, args.as_slice(), instance.args.as_slice()),
+            None => Ok(List::new(alloc)),
         },
     }
 }
 
-// Adds a pair of copies.
-fn add_pair(alloc: Global, pairs: &mut TermPairs, t: &Term, u: &Term) -> Result<(), NoMemory>
-    ensures { OnOk result (pairs.new ≡ pairs.old ++ (t.now, u.now) ∷ []) }
+// One pair.
+fn one_pair<'a>(
+    alloc: Global,
+    t: &'a Term,
+    u: &'a Term,
+) -> Result<List<(&'a Term, &'a Term)>, NoMemory>
+    ensures { IfOk result (λ pairs. read_pairs pairs ≡ (t.now, u.now) ∷ []) }
 {
-    pairs.push((copy(alloc, t)?, copy(alloc, u)?))?;
-    Ok(())
+    let mut pairs = List::new(alloc);
+    pairs.push((t, u))?;
+    Ok(pairs)
 }
 
-// Adds a pair for each place that both lists have.
-#[tactic(auto, using(crate::proofs::Members::zip_step, crate::proofs::Members::all_added))]
-fn add_all(alloc: Global, pairs: &mut TermPairs, ts: &[Term], us: &[Term]) -> Result<(), NoMemory>
-    ensures { OnOk result (pairs.new ≡ pairs.old ++ zip ts.now us.now) }
+// A pair for each place that both lists have.
+#[tactic(auto, using(crate::proofs::Members::all_added))]
+fn pairs_of<'a>(
+    alloc: Global,
+    ts: &'a [Term],
+    us: &'a [Term],
+) -> Result<List<(&'a Term, &'a Term)>, NoMemory>
+    ensures { IfOk result (λ pairs. read_pairs pairs ≡ zip ts.now us.now) }
 {
+    let mut pairs = List::new(alloc);
     for i in 0..ts.len().min(us.len()) {
-        add_pair(alloc, pairs, &ts[i], &us[i])?;
+        pairs.push((&ts[i], &us[i]))?;
     }
-    Ok(())
+    Ok(pairs)
 }

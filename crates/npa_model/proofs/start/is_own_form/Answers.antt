@@ -3,8 +3,8 @@ use Rattle.std.specs.Prelude.{◌↔◌, IsTrue}
 use Rattle.npa_rewrite.specs.Innermost.{normalized}
 use Rattle.npa_rewrite.specs.Rewriting.{IsNormal}
 use Rattle.npa_rewrite.proofs.Walk.{where_ok}
-use Rattle.npa_model.specs.Normal.{is_normal_by}
-use Rattle.npa_model.proofs.Normality.{tests_own_form}
+use Rattle.npa_rewrite.specs.Normal.{is_normal_by}
+use Rattle.npa_rewrite.proofs.Normality.{tests_own_form}
 use Rattle.npa_model.proofs.start.is_own_form.Goals as goal
 
 pub returns : goal.returns

@@ -1,5 +1,6 @@
 use Rattle.std.proofs.Common.{◌≡◌, drop}
-use Rattle.npa_model.specs.Instances.{sort_fault, param_sorts}
+use Rattle.npa_model.specs.Instances.{sort_fault}
+use Rattle.npa_sig.specs.Parameters.{param_sorts}
 use Rattle.npa_model.proofs.start.sort_fault.Given as goal
 
 abbrev pub invariant-loop-p : goal.invariant-loop-p

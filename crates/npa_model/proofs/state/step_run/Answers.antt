@@ -1,7 +1,7 @@
 use Rattle.std.proofs.Common.{◌≡◌, ℕ, List, sym, ◌∙◌, ap, slice_get, slice_index, slice_set, Some, ◌+◌}
 use Rattle.npa_term.specs.declared.term.Term.{Term}
 use Rattle.npa_rewrite.specs.Innermost.{normalized}
-use Rattle.npa_model.specs.Values.{under}
+use Rattle.npa_sig.specs.Values.{under}
 use Rattle.std.specs.Option.{option_copied}
 use Rattle.npa_sig.specs.declared.protocol.Event.{Event}
 use Rattle.npa_model.specs.State.{State}

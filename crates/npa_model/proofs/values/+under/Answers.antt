@@ -1,8 +1,8 @@
 use Rattle.std.proofs.Common.{◌≡◌, map, ap, sym, ◌∙◌, arith}
 use Rattle.std.proofs.lemmas.Grind.{common_steps}
 use Rattle.npa_term.specs.declared.term.Term.{App}
-use Rattle.npa_model.specs.Values.{under}
-use Rattle.npa_model.proofs.Rows.{under_at}
+use Rattle.npa_sig.specs.Values.{under}
+use Rattle.npa_sig.proofs.Under.{under_at}
 use Rattle.npa_model.proofs.values.+under.Goals as goal
 
 pub returns-after-loop-arg : goal.returns-after-loop-arg

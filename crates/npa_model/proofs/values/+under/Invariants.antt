@@ -1,5 +1,5 @@
 use Rattle.std.proofs.Common.{◌≡◌, map, take}
-use Rattle.npa_model.specs.Values.{under}
+use Rattle.npa_sig.specs.Values.{under}
 use Rattle.npa_model.proofs.values.+under.Given as goal
 
 abbrev pub invariant-loop-arg : goal.invariant-loop-arg

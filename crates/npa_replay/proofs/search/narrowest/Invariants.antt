@@ -1,9 +1,8 @@
-use Rattle.std.proofs.Common.{◌≡◌, ◌<◌, length}
+use Rattle.std.proofs.Common.{◌<◌, length}
 use Rattle.npa_replay.proofs.search.narrowest.Given as goal
 
 abbrev pub invariant-loop-at : goal.invariant-loop-at
 invariant-loop-at l = record {
-  kept : l.choice ≡ l.initial.choice;
   within : l.first < length l.places;
   some : 0 < l.least;
 }
