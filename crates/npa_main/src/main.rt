@@ -1,15 +1,9 @@
 //! The analyser's program.
 #![tactic(auto)]
 
-mod files;
-mod printing;
-mod program;
-mod run_text;
-mod strand_table;
-
+use npa_answers::npa_plain;
 use npa_list::List;
 use npa_text::{RealFiles, RealOut, Word, Words};
-use program::npa_plain;
 use std::process::ExitCode;
 use std::{env, io};
 
@@ -36,14 +30,3 @@ fn words_of(rt: &HostRuntime) -> io::Result<Words> {
     }
     Ok(words)
 }
-
-#[cfg(test)]
-mod answers;
-#[cfg(test)]
-mod equation_tests;
-#[cfg(test)]
-mod long_tests;
-#[cfg(test)]
-mod module_tests;
-#[cfg(test)]
-mod run_tests;

@@ -15,8 +15,8 @@ use Rattle.npa_text.specs.declared.terminals.TheConstants as terminal
 use Rattle.npa_text.specs.declared.token.Token.{Token}
 use Rattle.npa_text.specs.Languages.{module_language}
 use Rattle.npa_text.specs.Parses.{IsParse}
-use Rattle.npa_module.specs.Trees.{all_with, listed, below}
-use Rattle.npa_module.specs.Later.{items_of}
+use Rattle.npa_reading.specs.Trees.{all_with, listed, below}
+use Rattle.npa_limits.specs.Later.{items_of}
 use Rattle.npa_module.proofs.Formed.{EachOf}
 use Rattle.npa_module.proofs.FormedModules.{HasParts, AllHaveParts}
 

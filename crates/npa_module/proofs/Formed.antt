@@ -13,15 +13,17 @@ use Rattle.npa_term.specs.declared.term.Term.{Term}
 use Rattle.npa_term.specs.Variables.{variables}
 use Rattle.npa_sig.specs.declared.fault.UseFail.{UseFail}
 use Rattle.npa_sig.specs.Signature.{Signature, is_pair as is_sort_pair}
-use Rattle.npa_sig.specs.Sorting.{is_sort as is_sort_number, sort_of}
+use Rattle.npa_sig.specs.Sorting.{is_sort as is_sort_number}
+use Rattle.npa_term.specs.Parts.{least_sort as sort_of}
 use Rattle.npa_sig.specs.Meaning.{read, IsSorted, scope_variables}
 use Rattle.npa_sig.proofs.Sorted.{sorted_answer, own_answer}
-use Rattle.npa_model.specs.WellFormed.{IsTermOver, IsMessageOver, AreSorts}
+use Rattle.npa_sig.specs.WellFormed.{IsTermOver, IsMessageOver, AreSorts}
 use Rattle.npa_module.specs.declared.source.ReadError.{ReadError}
 use Rattle.npa_module.specs.declared.draft.Draft.{Draft}
-use Rattle.npa_module.specs.Trees.{word_at}
+use Rattle.npa_reading.specs.Trees.{word_at}
 use Rattle.npa_module.specs.Drafts.{sort_number}
-use Rattle.npa_module.specs.Refusals.{told_if, first_of, unless, in_front, all_read, name_refusal}
+use Rattle.npa_reading.specs.Reading.{told_if, first_told, unless, in_front, all_read}
+use Rattle.npa_module.specs.Refusals.{name_refusal}
 use Rattle.npa_module.specs.Items.{is_pair, scope_from, sort_named, one_sort_read, sorts_read, term_from, term_read, message, message_read}
 use Rattle.npa_module.specs.Rooms.{IsNamed}
 use Rattle.npa_module.proofs.Growth.{ok_unless, ok_then}
@@ -42,11 +44,11 @@ pub untold : (b : Bool) (e : ReadError) → told_if b e ≡ None → b ≡ false
 untold true e q = absurd (cc)
 untold false e q = refl
 
-pub untold_first : (b : Bool) (e : ReadError) (rest : List (Option ReadError)) → first_of (told_if b e ∷ rest) ≡ None → b ≡ false
+pub untold_first : (b : Bool) (e : ReadError) (rest : List (Option ReadError)) → first_told (told_if b e ∷ rest) ≡ None → b ≡ false
 untold_first true e rest q = absurd (cc)
 untold_first false e rest q = refl
 
-pub untold_rest : (b : Bool) (e : ReadError) (rest : List (Option ReadError)) → first_of (told_if b e ∷ rest) ≡ None → first_of rest ≡ None
+pub untold_rest : (b : Bool) (e : ReadError) (rest : List (Option ReadError)) → first_told (told_if b e ∷ rest) ≡ None → first_told rest ≡ None
 untold_rest true e rest q = absurd (cc)
 untold_rest false e rest q = q
 

@@ -18,23 +18,28 @@ use Rattle.npa_sig.specs.declared.signature.OpDecl.{OpDecl}
 use Rattle.npa_sig.specs.declared.protocol.Equation.{Equation}
 use Rattle.npa_sig.specs.declared.protocol.Event.{Event}
 use Rattle.npa_sig.specs.declared.protocol.Strand.{Strand}
-use Rattle.npa_sig.specs.Signature.{Signature, number_of, is_pair as is_sort_pair}
+use Rattle.npa_sig.specs.declared.fault.SigFail.{SigFail}
+use Rattle.npa_sig.specs.declared.fault.SigFail.TheVariants as sig_fail
+use Rattle.npa_sig.specs.Signature.{Signature, number_of, is_pair as is_sort_pair, next_fault}
 use Rattle.npa_names.specs.Names.{place_of}
-use Rattle.npa_sig.specs.Least.{HasSorts}
-use Rattle.npa_sig.specs.Sorting.{is_sort as is_sort_number, is_below, sort_of, all_below}
+use Rattle.npa_sig.specs.Operators.{HasSorts}
+use Rattle.npa_sig.specs.Sorting.{is_sort as is_sort_number, is_below, all_below}
+use Rattle.npa_term.specs.Parts.{least_sort as sort_of}
 use Rattle.npa_sig.specs.Meaning.{read, sort_at, one_fits}
 use Rattle.npa_sig.proofs.Sorted.{told_answer}
 use Rattle.npa_model.specs.declared.aim.Part.{Part}
 use Rattle.npa_model.specs.declared.aim.Aim.{Aim}
-use Rattle.npa_model.specs.Instances.{param_sorts}
-use Rattle.npa_model.specs.WellFormed.{IsTermOver, IsMessageOver, AreSorts, IsWellFormedEquation, IsWellFormedStrand, IsWellFormedPart, IsWellFormedAim}
+use Rattle.npa_sig.specs.Parameters.{param_sorts}
+use Rattle.npa_model.specs.WellFormed.{IsWellFormedPart, IsWellFormedAim}
+use Rattle.npa_sig.specs.WellFormed.{IsTermOver, IsMessageOver, AreSorts, IsWellFormedEquation, IsWellFormedStrand}
 use Rattle.npa_module.specs.declared.source.ReadError.{ReadError}
 use Rattle.npa_module.specs.declared.draft.Draft.{Draft}
 use Rattle.npa_module.specs.declared.scopes.Binders.{Binders}
-use Rattle.npa_module.specs.Trees.{has, all_with, kind_of, word_at, first_token, raw_below, after}
+use Rattle.npa_reading.specs.Trees.{has, all_with, kind_of, word_at, first_token, raw_below, after}
 use Rattle.npa_module.specs.Drafts.{strand_number}
-use Rattle.npa_module.specs.Refusals.{told_if, then_read, in_front, name_refusal, sort_refusal}
-use Rattle.npa_module.specs.Limits.{number, is_known, is_strand_part, params_of}
+use Rattle.npa_reading.specs.Reading.{told_if, then_read, in_front}
+use Rattle.npa_module.specs.Refusals.{name_refusal, sort_refusal}
+use Rattle.npa_limits.specs.Limits.{number, is_known, is_strand_part, params_of}
 use Rattle.npa_module.specs.Items.{unbound, bound, sort_in, met, occurring, words_in, equation_with, right_read, equation_over, one_equation_read, behind, is_taken, scope_from, scope_of, parameters, variable_nodes, fresh_nodes, event_nodes, part_nodes, parameter_nodes, is_pair, one_sort_read, not_fresh, op_with, op_over, op_fault, operator_read, fresh_read, variable_read, variables_read, term_read, message_read, event_with, event_read, events_read, strand_with, strand_over, strand_behind, one_strand_read, argument_fault, argument_read, arguments_read, strand_part_with, strand_part_over, strand_part_at, strand_part_read, known_part, part_read, parts_read, aim_with, aim_over, one_aim_read}
 use Rattle.npa_module.specs.Rooms.{IsNamed}
 use Rattle.npa_module.proofs.Growth.{ok_unless, ok_then, same_length}
@@ -140,6 +145,19 @@ module _ (bytes : List ℕ) (tokens : List Token) where
     pub record IsGoodDecl (decl : OpDecl) : Type 0 where
       pub sorts : HasSorts d.sig.sorts decl
       pub pair : decl.«com» ≡ true → is_sort_pair decl.args ≡ true
+      pub declarable : next_fault d.sig decl ≡ None
+
+    -- none of the tests of a signature refuses it
+    none_refused : (a b c : Bool) (x y z : SigFail) → a ≡ false → b ≡ false → c ≡ false → cond a (Some x) (cond b (Some y) (cond c (Some z) None)) ≡ None
+    none_refused true b c x y z p q r = cc
+    none_refused false true c x y z p q r = cc
+    none_refused false false true x y z p q r = cc
+    none_refused false false false x y z p q r = refl
+
+    kept_pair : (a b : Bool) → (a ≡ true → b ≡ true) → (a && not b) ≡ false
+    kept_pair true true f = refl
+    kept_pair true false f = sym (f refl)
+    kept_pair false b f = refl
 
     got_each : (P : ℕ → Type 0) (xs : List ℕ) → EachOf P xs → (k s : ℕ) → slice_get xs k ≡ Some s → P s
     got_each P [] each k s e = absurd (cc)
@@ -158,14 +176,27 @@ module _ (bytes : List ℕ) (tokens : List Token) where
         let s = ok_then (not_fresh bytes (first_token tokens symbol.RESULT_SORT nodes)) (one_sort_read bytes d.sorts (first_token tokens symbol.RESULT_SORT nodes)) r.value r.is in
         let same_sort : s.value ≡ r.value = ok_is s.value r.value (ok_unless _ _ r.value s.gives) in
         let result_is : r.value < d.sig.sorts.declared + 2 = subst (λ n. n < d.sig.sorts.declared + 2) same_sort (sort_is bytes d named (first_token tokens symbol.RESULT_SORT nodes) s.value s.is) in
+        let apart : (r.value == 1) ≡ false = ap (λ n. n == 1) (sym same_sort) ∙ untold (s.value == 1) _ (none_unless _ _ r.value s.gives) in
+        let new : is_some (number_of d.sig (text_of bytes name)) ≡ false =
+        neither_first (is_some (number_of d.sig (text_of bytes name))) (is_some (place_of (text_of bytes name) d.strands.params)) (untold_first _ _ _ none) in
         let each : EachOf (λ n. n < d.sig.sorts.declared + 2) a.value =
         each_read (λ n. n < d.sig.sorts.declared + 2) (λ n. one_sort_read bytes d.sorts (token_at tokens n)) args a.value (λ n x q. sort_is bytes d named (token_at tokens n) x q) a.is in
+        let pair : commutes ≡ true → is_sort_pair a.value ≡ true =
+        λ t. pair_is bytes tokens d.sorts args a.value (unless_and commutes (is_pair (map (word_at bytes tokens) args)) (untold_first (commutes && not (is_pair (map (word_at bytes tokens) args))) (sort_refusal bytes name) []
+        (untold_rest (is_some (number_of d.sig (text_of bytes name)) || is_some (place_of (text_of bytes name) d.strands.params)) (name_refusal bytes name)
+        (told_if (commutes && not (is_pair (map (word_at bytes tokens) args))) (sort_refusal bytes name) ∷ []) none)) t) a.is in
         subst IsGoodDecl (ok_is _ decl r.gives) (record {
           sorts = (result_is, λ k n q. got_each (λ m. m < d.sig.sorts.declared + 2) a.value each k n q);
-          pair = λ t. pair_is bytes tokens d.sorts args a.value (unless_and commutes (is_pair (map (word_at bytes tokens) args)) (untold_first (commutes && not (is_pair (map (word_at bytes tokens) args))) (sort_refusal bytes name) []
-              (untold_rest (is_some (number_of d.sig (text_of bytes name)) || is_some (place_of (text_of bytes name) d.strands.params)) (name_refusal bytes name)
-              (told_if (commutes && not (is_pair (map (word_at bytes tokens) args))) (sort_refusal bytes name) ∷ []) none)) t) a.is;
+          pair = pair;
+          declarable = none_refused (r.value == 1) (commutes && not (is_sort_pair a.value)) (is_some (number_of d.sig (text_of bytes name)))
+              (sig_fail.Fresh (length d.sig.ops)) (sig_fail.Comm (length d.sig.ops)) (sig_fail.Twice (length d.sig.ops)) apart (kept_pair commutes (is_sort_pair a.value) pair) new;
         })
+
+    pub operator_sorts : (nodes : List Node) (decl : OpDecl) → operator_read bytes tokens d nodes ≡ Ok decl → HasSorts d.sig.sorts decl
+    operator_sorts nodes decl e = (operator_formed nodes decl e).sorts
+
+    pub operator_declarable : (nodes : List Node) (decl : OpDecl) → operator_read bytes tokens d nodes ≡ Ok decl → next_fault d.sig decl ≡ None
+    operator_declarable nodes decl e = (operator_formed nodes decl e).declarable
 
     -- ## A strand
 

@@ -1,5 +1,5 @@
 -- A module that is read is well formed, item by item.
-use Rattle.std.proofs.Common.{◌≡◌, ℕ, zero, suc, ◌+◌, ◌<◌, ◌≤◌, ◌==◌, Bool, true, false, cond, List, [], ◌∷◌, ◌++◌, None, Some, Result, Ok, length, is_some, refl, ap, sym, ◌∙◌, subst, arith}
+use Rattle.std.proofs.Common.{◌≡◌, ℕ, zero, suc, ◌+◌, ◌≤◌, ◌==◌, Bool, true, false, cond, List, [], ◌∷◌, ◌++◌, None, Some, Result, Ok, length, is_some, refl, ap, sym, ◌∙◌, subst, arith}
 use Rattle.std.specs.Prelude.{slice_get}
 use Rattle.npa_syntax.specs.declared.node.Node.{Node}
 use Rattle.npa_syntax.specs.Nodes.{children_of}
@@ -8,27 +8,29 @@ use Rattle.npa_text.specs.declared.terminals.TheConstants as terminal
 use Rattle.npa_text.specs.declared.symbols.TheConstants as symbol
 use Rattle.npa_text.specs.Texts.{text_of}
 use Rattle.npa_term.specs.declared.term.Term.{Term}
-use Rattle.npa_sig.specs.declared.signature.OpDecl.{OpDecl}
 use Rattle.npa_sig.specs.declared.protocol.Equation.{Equation}
 use Rattle.npa_sig.specs.declared.protocol.Strand.{Strand}
-use Rattle.npa_sig.specs.Signature.{Signature, is_pair as is_sort_pair, with_op, with_subsort, with_sort as sig_with_sort}
-use Rattle.npa_sig.specs.Least.{HasSorts}
+use Rattle.npa_sig.specs.Signature.{Signature, with_op, with_subsort, with_sort as sig_with_sort}
+use Rattle.npa_sig.specs.Operators.{IsWellFormedSignature}
+use Rattle.npa_sig.proofs.Operators.{formed_bare, formed_sort, formed_subsort, formed_op}
 use Rattle.npa_sig.proofs.Growing.{Grows, grows_itself, grows_sort, grows_subsort, grows_op, still_sorted, still_below}
 use Rattle.npa_model.specs.declared.aim.Part.{Part}
 use Rattle.npa_model.specs.declared.aim.Part.TheVariants as part
 use Rattle.npa_model.specs.declared.aim.Aim.{Aim}
-use Rattle.npa_model.specs.Instances.{param_sorts}
-use Rattle.npa_model.specs.WellFormed.{IsTermOver, IsMessageOver, AreSorts, IsWellFormedEquation, IsWellFormedStrand, IsWellFormedSignature, IsWellFormedPart, IsWellFormedAim}
+use Rattle.npa_sig.specs.Parameters.{param_sorts}
+use Rattle.npa_model.specs.WellFormed.{IsWellFormedPart, IsWellFormedAim}
+use Rattle.npa_sig.specs.WellFormed.{IsTermOver, IsMessageOver, AreSorts, IsWellFormedEquation, IsWellFormedStrand}
 use Rattle.npa_module.specs.declared.source.Source.{Source}
 use Rattle.npa_module.specs.declared.source.ReadError.{ReadError}
 use Rattle.npa_module.specs.declared.draft.Draft.{Draft}
-use Rattle.npa_module.specs.Trees.{kind_of, word_of, below, first_token}
+use Rattle.npa_reading.specs.Trees.{kind_of, word_of, below, first_token}
 use Rattle.npa_module.specs.Drafts.{nothing, with_sort, with_pair, with_operator, with_equation, with_strand, with_aim, sort_number}
-use Rattle.npa_module.specs.Refusals.{told_if, name_refusal}
-use Rattle.npa_module.specs.Limits.{limit_of, number, is_known, is_strand_part, params_of, is_sort, is_op, is_eq, is_strand, is_aim}
-use Rattle.npa_module.specs.Later.{items_of}
+use Rattle.npa_reading.specs.Reading.{told_if}
+use Rattle.npa_module.specs.Refusals.{name_refusal}
+use Rattle.npa_limits.specs.Limits.{limit_of, number, is_known, is_strand_part, params_of, is_sort, is_op, is_eq, is_strand, is_aim}
+use Rattle.npa_limits.specs.Later.{items_of}
 use Rattle.npa_module.specs.Items.{part_nodes, event_nodes, sort_named, subsort_fault, sort_read, subsort_read, op_read, operator_read, operator_declared, equation_read, one_equation_read, equation_declared, strand_read, one_strand_read, strand_declared, aim_read, one_aim_read, aim_declared, item_read, items_read}
-use Rattle.npa_module.specs.Within.{IsItemWithin}
+use Rattle.npa_limits.specs.Within.{IsItemWithin}
 use Rattle.npa_module.specs.Rooms.{IsNamed, HaveRoom}
 use Rattle.npa_module.specs.Modules.{source_of, finished}
 use Rattle.npa_module.specs.Forms.{AreWellFormedAims, IsWellFormedSource}
@@ -85,7 +87,7 @@ module _ (small large : Signature) (grows : Grows small large) where
 
 -- ## Lists with one member more
 
-last_or_earlier : {A : Type 0} (P : A → Type 0) (xs : List A) (x : A) → ((k : ℕ) (y : A) → slice_get xs k ≡ Some y → P y) → P x →
+pub last_or_earlier : {A : Type 0} (P : A → Type 0) (xs : List A) (x : A) → ((k : ℕ) (y : A) → slice_get xs k ≡ Some y → P y) → P x →
     (k : ℕ) (y : A) → slice_get (xs ++ x ∷ []) k ≡ Some y → P y
 last_or_earlier P [] x each p zero y e = let q : x ≡ y = cc in subst P q p
 last_or_earlier P [] x each p (suc k) y e = absurd (cc)
@@ -108,7 +110,7 @@ pub record IsFormed (d : Draft) : Type 0 where
 
 pub formed_at_first : IsFormed nothing
 formed_at_first = record {
-  signature = record { sorts = λ k decl e. absurd (cc); pairs = λ k decl e t. absurd (cc) };
+  signature = formed_bare;
   equations = λ k equation e. absurd (cc);
   strands = λ k strand e. absurd (cc);
   named_so = λ k strand e. absurd (cc);
@@ -137,22 +139,12 @@ module _ (bytes : List ℕ) (tokens : List Token) (d e : Draft) (named : IsNamed
             (formed.aims k aim (ap (λ x. slice_get x.list k) aims ∙ q));
       }
 
-  -- the declared operators' sorts stay sorts
-  sorts_kept : (n : ℕ) (signature : IsWellFormedSignature d.sig) → d.sig.sorts.declared ≤ n → (k : ℕ) (decl : OpDecl) → slice_get d.sig.ops k ≡ Some decl →
-      (decl.result < n + 2) × ((j m : ℕ) → slice_get decl.args j ≡ Some m → m < n + 2)
-  sorts_kept n signature wide k decl f =
-      let s = signature.sorts k decl f in
-      ((let r : decl.result < d.sig.sorts.declared + 2 = s.0 in omega (arith, r, wide)), λ j m g. let r : m < d.sig.sorts.declared + 2 = s.1 j m g in omega (arith, r, wide))
-
   sort_kept : (nodes : List Node) → sort_read bytes tokens d nodes ≡ Ok e → IsFormed e
   sort_kept nodes q =
       let name = text_of bytes (first_token tokens symbol.SORT_NAME nodes) in
       let same : with_sort d name ≡ e = ok_is (with_sort d name) e (ok_unless (told_if (is_some (sort_number d.sorts name)) (name_refusal bytes (first_token tokens symbol.SORT_NAME nodes))) (Ok (with_sort d name)) e q) in
       grown_sig (sig_with_sort d.sig name) (grows_sort d.sig name)
-      (record {
-        sorts = sorts_kept (d.sig.sorts.declared + 1) formed.signature (omega arith);
-        pairs = formed.signature.pairs;
-      })
+      (formed_sort d.sig name formed.signature)
       (ap (λ (x : Draft). x.sig) same) (ap (λ (x : Draft). x.equations) same) (ap (λ (x : Draft). x.strands) same) (ap (λ (x : Draft). x.aims) same)
 
   subsort_kept : (nodes : List Node) → subsort_read bytes tokens d nodes ≡ Ok e → IsFormed e
@@ -163,7 +155,7 @@ module _ (bytes : List ℕ) (tokens : List Token) (d e : Draft) (named : IsNamed
       let same : with_pair d (sort_named bytes d.sorts lower) (sort_named bytes d.sorts upper) ≡ e =
       ok_is (with_pair d (sort_named bytes d.sorts lower) (sort_named bytes d.sorts upper)) e (ok_unless (subsort_fault bytes d lower upper) (Ok (with_pair d (sort_named bytes d.sorts lower) (sort_named bytes d.sorts upper))) e q) in
       grown_sig (with_subsort d.sig (sort_named bytes d.sorts lower) (sort_named bytes d.sorts upper)) (grows_subsort d.sig (sort_named bytes d.sorts lower) (sort_named bytes d.sorts upper))
-      (record { sorts = formed.signature.sorts; pairs = formed.signature.pairs })
+      (formed_subsort d.sig (sort_named bytes d.sorts lower) (sort_named bytes d.sorts upper) formed.signature)
       (ap (λ (x : Draft). x.sig) same) (ap (λ (x : Draft). x.equations) same) (ap (λ (x : Draft). x.strands) same) (ap (λ (x : Draft). x.aims) same)
 
   op_kept : (nodes : List Node) → op_read bytes tokens d nodes ≡ Ok e → IsFormed e
@@ -172,10 +164,7 @@ module _ (bytes : List ℕ) (tokens : List Token) (d e : Draft) (named : IsNamed
       let decl = operator_formed bytes tokens d named nodes o.value o.is in
       let same : with_operator d o.value ≡ e = ok_is (with_operator d o.value) e o.gives in
       grown_sig (with_op d.sig o.value) (grows_op d.sig o.value)
-      (record {
-        sorts = last_or_earlier (HasSorts d.sig.sorts) d.sig.ops o.value formed.signature.sorts decl.sorts;
-        pairs = last_or_earlier (λ (x : OpDecl). x.«com» ≡ true → is_sort_pair x.args ≡ true) d.sig.ops o.value formed.signature.pairs decl.pair;
-      })
+      (formed_op d.sig o.value formed.signature decl.sorts decl.declarable)
       (ap (λ (x : Draft). x.sig) same) (ap (λ (x : Draft). x.equations) same) (ap (λ (x : Draft). x.strands) same) (ap (λ (x : Draft). x.aims) same)
 
   equation_kept : (nodes : List Node) → equation_read bytes tokens d nodes ≡ Ok e → IsFormed e

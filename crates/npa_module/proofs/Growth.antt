@@ -10,14 +10,15 @@ use Rattle.npa_text.specs.declared.symbols.TheConstants as symbol
 use Rattle.npa_sig.specs.declared.protocol.Strand.{Strand}
 use Rattle.npa_module.specs.declared.source.ReadError.{ReadError}
 use Rattle.npa_module.specs.declared.draft.Draft.{Draft}
-use Rattle.npa_module.specs.Trees.{kind_of, first_token, seen}
+use Rattle.npa_reading.specs.Trees.{kind_of, first_token, seen}
 use Rattle.npa_module.specs.Drafts.{nothing, with_sort, with_pair, with_operator, with_equation, with_strand, with_aim}
-use Rattle.npa_module.specs.Refusals.{unless, then_read, in_front, all_read, Refuses}
-use Rattle.npa_module.specs.Limits.{number, limit_of, is_sort, is_op, is_eq, is_strand, is_aim, events_of}
-use Rattle.npa_module.specs.Later.{items_of}
+use Rattle.npa_reading.specs.Reading.{unless, then_read, in_front, all_read}
+use Rattle.npa_module.specs.Refusals.{Refuses}
+use Rattle.npa_limits.specs.Limits.{number, limit_of, is_sort, is_op, is_eq, is_strand, is_aim, events_of}
+use Rattle.npa_limits.specs.Later.{items_of}
 use Rattle.npa_module.specs.Items.{sort_named, sort_read, subsort_read, op_read, operator_read, operator_declared, equation_read, one_equation_read, equation_declared, strand_read, one_strand_read, strand_declared, strand_behind, strand_over, strand_with, aim_read, one_aim_read, aim_declared, item_read, items_read, event_read, event_nodes, parameters}
 use Rattle.npa_module.specs.Rooms.{AreShort, IsNamed, HasRoom, HaveRoom}
-use Rattle.npa_module.proofs.KeptLimits.{kept_limits}
+use Rattle.npa_limits.proofs.KeptLimits.{kept_limits}
 
 -- ## What stands behind an answer
 

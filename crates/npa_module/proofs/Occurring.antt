@@ -14,8 +14,9 @@ use Rattle.npa_sig.specs.declared.meaning.Scoped.{Scoped}
 use Rattle.npa_module.specs.declared.source.ReadError.{ReadError}
 use Rattle.npa_module.specs.declared.draft.Draft.{Draft}
 use Rattle.npa_module.specs.declared.scopes.Binders.{Binders}
-use Rattle.npa_module.specs.Trees.{word_at, first_token}
-use Rattle.npa_module.specs.Refusals.{told_if, then_read, name_refusal}
+use Rattle.npa_reading.specs.Trees.{word_at, first_token}
+use Rattle.npa_reading.specs.Reading.{told_if, then_read}
+use Rattle.npa_module.specs.Refusals.{name_refusal}
 use Rattle.npa_module.specs.Items.{joined, unbound, bound, is_taken, scope_from, scope_of, numbered, sort_in, met, occurring, words_in, one_sort_read, variable_read, variables_read}
 use Rattle.npa_module.proofs.Growth.{ok_unless, ok_then, ok_is}
 

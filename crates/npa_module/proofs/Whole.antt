@@ -6,11 +6,11 @@ use Rattle.npa_text.specs.declared.token.Token.{Token}
 use Rattle.npa_text.specs.declared.symbols.TheConstants as symbol
 use Rattle.npa_module.specs.declared.source.ReadError.{ReadError}
 use Rattle.npa_module.specs.declared.draft.Draft.{Draft}
-use Rattle.npa_module.specs.Trees.{all_with, below, word_of, seen}
+use Rattle.npa_reading.specs.Trees.{all_with, below, word_of, seen}
 use Rattle.npa_module.specs.Drafts.{nothing}
-use Rattle.npa_module.specs.Later.{items_of}
+use Rattle.npa_limits.specs.Later.{items_of}
 use Rattle.npa_module.specs.Items.{items_read, fresh_nodes}
-use Rattle.npa_module.specs.Refusals.{then_read}
+use Rattle.npa_reading.specs.Reading.{then_read}
 use Rattle.npa_module.specs.Modules.{source_of, finished}
 
 pub tree_read : (bytes : List ℕ) (tokens : List Token) (nodes inside items : List Node) (r : Result Draft ReadError) (name word : List ℕ) →

@@ -1,10 +1,11 @@
 -- What holds of a module that is read: each number in it stands for something that is there, and each
 -- term is well sorted (order-sorted signatures: Goguen, Meseguer 1992).
-use Rattle.std.specs.Prelude.{◌≡◌, ◌≤◌, ℕ, List, Some, slice_get, length}
+use Rattle.std.specs.Prelude.{◌≡◌, ◌<◌, ◌≤◌, ℕ, List, Some, slice_get, length}
 use Rattle.npa_sig.specs.declared.protocol.Strand.{Strand}
 use Rattle.npa_sig.specs.Signature.{Signature}
 use Rattle.npa_model.specs.declared.aim.Aim.{Aim}
-use Rattle.npa_model.specs.WellFormed.{IsWellFormedProtocol, IsWellFormedAim}
+use Rattle.npa_model.specs.WellFormed.{IsWellFormedAim, IsPlainAim}
+use Rattle.npa_sig.specs.WellFormed.{IsWellFormedProtocol, IsPlainProtocol}
 use Rattle.npa_module.specs.declared.source.Source.{Source}
 
 -- each aim is well formed
@@ -16,3 +17,11 @@ pub record IsWellFormedSource (source : Source) : Type 0 where
   pub protocol : IsWellFormedProtocol source.protocol
   pub aims : AreWellFormedAims source.protocol.sig source.protocol.strands source.aims
   pub few_strands : length source.protocol.strands ≤ 65535
+
+-- No fresh name stands in the equations, the strands and the aims, the variables there have numbers
+-- below 2^30, and there are fewer equations, strands, operators and aims than a number of 16 bits can
+-- name.
+pub record IsPlainSource (source : Source) : Type 0 where
+  pub protocol : IsPlainProtocol source.protocol
+  pub aims : (k : ℕ) (aim : Aim) → slice_get source.aims k ≡ Some aim → IsPlainAim aim
+  pub few_aims : length source.aims < 65535

@@ -21,19 +21,21 @@ use Rattle.npa_sig.specs.declared.protocol.Event.{Event}
 use Rattle.npa_sig.specs.declared.protocol.Strand.{Strand}
 use Rattle.npa_sig.specs.declared.meaning.Scoped.{Scoped}
 use Rattle.npa_sig.specs.Signature.{Signature, number_of}
-use Rattle.npa_sig.specs.Sorting.{is_below, sort_of}
+use Rattle.npa_sig.specs.Sorting.{is_below}
+use Rattle.npa_term.specs.Parts.{least_sort as sort_of}
 use Rattle.npa_sig.specs.Meaning.{read, sort_at, one_fits}
-use Rattle.npa_model.specs.Instances.{param_sorts}
+use Rattle.npa_sig.specs.Parameters.{param_sorts}
 use Rattle.npa_model.specs.declared.aim.Part.{Part}
 use Rattle.npa_model.specs.declared.aim.Part.TheVariants as part
 use Rattle.npa_model.specs.declared.aim.Aim.{Aim}
 use Rattle.npa_module.specs.declared.source.ReadError.{ReadError}
 use Rattle.npa_module.specs.declared.scopes.Binders.{Binders}
-use Rattle.npa_module.specs.Trees.{all_with, listed, has, below, word_at, kind_of, first_token, raw_below, after}
+use Rattle.npa_reading.specs.Trees.{all_with, listed, has, below, word_at, kind_of, first_token, raw_below, after}
 use Rattle.npa_module.specs.declared.draft.Draft.{Draft}
 use Rattle.npa_module.specs.Drafts.{sort_number, strand_number, with_sort, with_pair, with_operator, with_equation, with_strand, with_aim}
-use Rattle.npa_module.specs.Limits.{is_sort, is_op, is_eq, is_strand, is_aim}
-use Rattle.npa_module.specs.Refusals.{name_refusal, sort_refusal, told_if, first_of, unless, then_read, in_front, all_read, use_refusal}
+use Rattle.npa_limits.specs.Limits.{is_sort, is_op, is_eq, is_strand, is_aim}
+use Rattle.npa_reading.specs.Reading.{told_if, first_told, unless, then_read, in_front, all_read}
+use Rattle.npa_module.specs.Refusals.{name_refusal, sort_refusal, use_refusal}
 
 -- the sort of fresh values
 abbrev pub is_fresh : Option ℕ → Bool
@@ -151,7 +153,7 @@ module _ (bytes : List ℕ) where
   subsort_fault d lower upper =
       let l = sort_number d.sorts (text_of bytes lower) in
       let u = sort_number d.sorts (text_of bytes upper) in
-      first_of (
+      first_told (
       told_if (is_none l) (name_refusal bytes lower)
       ∷ told_if (is_fresh l || closes_cycle d.sig l u) (sort_refusal bytes lower)
       ∷ told_if (is_none u) (name_refusal bytes upper)
@@ -240,7 +242,7 @@ module _ (bytes : List ℕ) (tokens : List Token) where
   -- commutative one has two arguments of one sort
   abbrev pub op_fault : Draft → Token → Bool → List Node → Option ReadError
   op_fault d name commutes args =
-      first_of (
+      first_told (
       told_if (is_some (number_of d.sig (text_of bytes name)) || is_some (place_of (text_of bytes name) d.strands.params)) (name_refusal bytes name)
       ∷ told_if (commutes && not (is_pair (map (word_at bytes tokens) args))) (sort_refusal bytes name)
       ∷ [])
@@ -327,7 +329,7 @@ module _ (bytes : List ℕ) (tokens : List Token) where
   -- is at or below the parameter's
   abbrev pub argument_fault : Signature → List Scoped → List ℕ → ℕ → Node → Option ReadError
   argument_fault sig scope name sort node =
-      first_of (
+      first_told (
       told_if (not (bytes_eq (word_at bytes tokens node) name)) (name_refusal bytes (token_at tokens node))
       ∷ told_if (not (one_fits sig (sort_at sig scope bytes (raw_below tokens symbol.TERM (children_of node))) sort)) (sort_refusal bytes (token_at tokens node))
       ∷ [])

@@ -1,11 +1,6 @@
-pub mod Trees
 pub mod Refusals
 pub mod Drafts
 pub mod Items
-pub mod Later
-pub mod Limits
-pub mod Tallies
-pub mod Within
 pub mod Rooms
 pub mod Modules
 pub mod Forms

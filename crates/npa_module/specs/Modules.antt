@@ -1,5 +1,5 @@
 -- Module texts: which bytes stand for which module, and which refusal other bytes have.
-use Rattle.std.specs.Prelude.{◌≡◌, ◌⊎◌, ℕ, List, Result, Ok, Err}
+use Rattle.std.specs.Prelude.{ℕ, List, Result, Ok, Err}
 use Rattle.std.specs.Option.{option_map}
 use Rattle.npa_syntax.specs.declared.node.Node.{Node}
 use Rattle.npa_text.specs.declared.token.Token.{Token}
@@ -7,17 +7,17 @@ use Rattle.npa_text.specs.declared.fault.TextFault.{TextFault}
 use Rattle.npa_text.specs.declared.fault.TextFault.TheVariants as text_fault
 use Rattle.npa_text.specs.declared.symbols.TheConstants as symbol
 use Rattle.npa_text.specs.Languages.{module_language}
-use Rattle.npa_text.specs.Parses.{IsParse, IsFirstFault}
 use Rattle.npa_module.specs.declared.source.Source.{Source}
-use Rattle.npa_module.specs.declared.source.LimitPart.{LimitPart}
+use Rattle.npa_limits.specs.declared.part.LimitPart.{LimitPart}
 use Rattle.npa_module.specs.declared.source.ReadError.{ReadError}
 use Rattle.npa_module.specs.declared.source.ReadError.TheVariants as read_error
-use Rattle.npa_module.specs.Trees.{word_of, below}
+use Rattle.npa_reading.specs.Trees.{word_of, below}
 use Rattle.npa_module.specs.declared.draft.Draft.{Draft}
 use Rattle.npa_module.specs.Drafts.{nothing}
-use Rattle.npa_module.specs.Later.{items_of, later_of}
-use Rattle.npa_module.specs.Limits.{limit_of}
-use Rattle.npa_module.specs.Refusals.{unless, then_read, Gives}
+use Rattle.npa_limits.specs.Later.{items_of, later_of}
+use Rattle.npa_limits.specs.Limits.{limit_of}
+use Rattle.npa_reading.specs.Reading.{unless, then_read}
+use Rattle.npa_reading.specs.Verdicts.{Reader, ReadsAs, AnswersText, OnlyAnswersText}
 use Rattle.npa_module.specs.Items.{items_read}
 
 -- what the items have declared, as a module of a name
@@ -47,11 +47,14 @@ verdict bytes tokens nodes =
     unless (option_map later_refusal (later_of tokens nodes))
     (unless (option_map limit_refusal (limit_of nodes)) (source_of bytes tokens nodes))
 
+-- how a module text is read
+abbrev pub module_reader : List ℕ → Reader Source ReadError
+module_reader bytes = record { stop = read_error.Syntax; wanting = read_error.NoMemory; verdict = verdict bytes }
+
 -- What bytes are read as: bytes that are no text of the grammar have the first place at which no text
 -- can go on, and others the verdict on their trees.
-pub data Reads (bytes : List ℕ) : Result Source ReadError → Type 0 where
-  stops : (line col : ℕ) → IsFirstFault module_language bytes line col → Reads bytes (Err (read_error.Syntax line col))
-  parsed : (tokens : List Token) (nodes : List Node) → IsParse module_language bytes tokens nodes → Reads bytes (verdict bytes tokens nodes)
+abbrev pub Reads : List ℕ → Result Source ReadError → Type 0
+Reads bytes read = ReadsAs module_language (module_reader bytes) bytes read
 
 -- the bytes stand for a module
 abbrev pub IsModule : List ℕ → Source → Type 0
@@ -59,8 +62,8 @@ IsModule bytes source = Reads bytes (Ok source)
 
 -- the answer is what the bytes are read as, unless memory was wanting
 abbrev pub IsRead : List ℕ → Result Source ReadError → Type 0
-IsRead bytes result = (result ≡ Err read_error.NoMemory) ⊎ Reads bytes result
+IsRead bytes answer = AnswersText module_language (module_reader bytes) bytes answer
 
 -- whatever the bytes are read as is answered, unless memory was wanting; so they are read as one thing
-pub record AnswersModule (bytes : List ℕ) (result : Result Source ReadError) : Type 0 where
-  pub every : (r : Result Source ReadError) → Reads bytes r → Gives result r
+abbrev pub AnswersModule : List ℕ → Result Source ReadError → Type 0
+AnswersModule bytes answer = OnlyAnswersText module_language (module_reader bytes) bytes answer

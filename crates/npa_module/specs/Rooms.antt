@@ -3,8 +3,8 @@ use Rattle.std.specs.Prelude.{◌≡◌, ◌≤◌, ℕ, ◌+◌, List, length, 
 use Rattle.npa_syntax.specs.declared.node.Node.{Node}
 use Rattle.npa_sig.specs.declared.protocol.Strand.{Strand}
 use Rattle.npa_module.specs.declared.draft.Draft.{Draft}
-use Rattle.npa_module.specs.Limits.{number, is_sort, is_op, is_strand}
-use Rattle.npa_module.specs.Within.{IsItemWithin}
+use Rattle.npa_limits.specs.Limits.{number, is_sort, is_op, is_strand}
+use Rattle.npa_limits.specs.Within.{IsItemWithin}
 
 -- no strand has more events than the limit
 abbrev pub AreShort : List Strand → Type 0

@@ -1,8 +1,9 @@
-ghost use Rattle.std.specs.Prelude.{◌≡◌, ◌≢◌, ◌<◌, ◌≤◌, false, is_some, length, IfSome, IfOk, OnOk, Ok, Err};
+ghost use Rattle.std.specs.Prelude.{◌≡◌, ◌≢◌, ◌<◌, ◌≤◌, false, is_some, length, None, IfSome, IfOk, OnOk, Ok, Err};
 ghost use Rattle.npa_names.specs.Names.{place_of};
 ghost use Rattle.npa_sorts.specs.Subsorts.{IsSort, at_or_below};
-ghost use Rattle.npa_sig.specs.Signature.{with_sort as sig_with_sort};
-ghost use Rattle.npa_module.specs.Drafts.{nothing, sort_number, strand_number, with_sig, with_sort, with_pair, with_operator, with_equation, with_strand, with_aim, strand_added, aim_added, given};
+ghost use Rattle.npa_sig.specs.Operators.{HasSorts};
+ghost use Rattle.npa_sig.specs.Signature.{next_fault, with_sort as sig_with_sort};
+ghost use Rattle.npa_module.specs.Drafts.{nothing, sort_number, strand_number, with_sig, with_sort, with_pair, with_operator, with_equation, with_strand, with_aim, strand_added, aim_added, given, rest_of, joined};
 ghost use Rattle.npa_module.specs.Refusals.{Gives};
 ghost use Rattle.npa_module.specs.Modules.{finished};
 
@@ -10,7 +11,8 @@ use crate::source::{ReadError, Source};
 use npa_list::List;
 use npa_model::{Aim, Aims};
 use npa_names::NameTable;
-use npa_sig::{Equation, Equations, FRESH, OpDecl, Protocol, Sig, Strand, Strands};
+use npa_sig::{Equation, Equations, FRESH, OpDecl, Protocol, Sig, SigFail, Strand, Strands};
+use npa_sorts::NoMemory;
 use npa_text::Name;
 use std::alloc::{AllocError, Global};
 
@@ -38,6 +40,55 @@ pub(crate) struct Draft {
     pub(crate) equations: Equations,
     pub(crate) strands: StrandSpace,
     pub(crate) aims: AimSpace,
+}
+
+// What is declared beside the signature.
+#[derive(Debug, Drop)]
+struct Rest {
+    sorts: NameTable,
+    equations: Equations,
+    strands: StrandSpace,
+    aims: AimSpace,
+}
+
+// The signature, and what is declared beside it.
+fn parted(draft: Draft) -> (Sig, Rest)
+    ensures sig { result.0 ≡ draft.sig }
+    ensures rest { result.1 ≡ rest_of draft }
+{
+    let Draft {
+        sig,
+        sorts,
+        equations,
+        strands,
+        aims,
+    } = draft;
+    let rest = Rest {
+        sorts,
+        equations,
+        strands,
+        aims,
+    };
+    (sig, rest)
+}
+
+// The same together.
+fn joined(sig: Sig, rest: Rest) -> Draft
+    ensures { result ≡ joined sig rest }
+{
+    let Rest {
+        sorts,
+        equations,
+        strands,
+        aims,
+    } = rest;
+    Draft {
+        sig,
+        sorts,
+        equations,
+        strands,
+        aims,
+    }
 }
 
 // An item's refusal, in place of what is declared.
@@ -78,7 +129,7 @@ pub(crate) fn empty_draft(alloc: Global) -> Result<Draft, ReadError>
 {
     let sig = match Sig::bare(alloc) {
         Ok(sig) => sig,
-        Err(_) => return Err(ReadError::NoMemory),
+        Err(NoMemory) => return Err(ReadError::NoMemory),
     };
     Ok(Draft {
         sig,
@@ -146,22 +197,10 @@ fn number_sort(alloc: Global, draft: Draft, name: Name) -> Result<Draft, ReadErr
     requires { draft.sig.sorts.declared < 65533 }
     ensures { Gives result (Ok (with_sig draft (sig_with_sort draft.sig name))) }
 {
-    let Draft {
-        sig,
-        sorts,
-        equations,
-        strands,
-        aims,
-    } = draft;
+    let (sig, rest) = parted(draft);
     match sig.declare_sort(alloc, name) {
-        Ok(sig) => Ok(Draft {
-            sig,
-            sorts,
-            equations,
-            strands,
-            aims,
-        }),
-        Err(_) => Err(ReadError::NoMemory),
+        Ok(sig) => Ok(joined(sig, rest)),
+        Err(NoMemory) => Err(ReadError::NoMemory),
     }
 }
 
@@ -178,46 +217,25 @@ pub(crate) fn put_below(
     requires acyclic { at_or_below draft.sig.sorts upper lower ≡ false }
     ensures { Gives result (Ok (with_pair draft lower upper)) }
 {
-    let Draft {
-        sig,
-        sorts,
-        equations,
-        strands,
-        aims,
-    } = draft;
+    let (sig, rest) = parted(draft);
     match sig.put_below(alloc, lower, upper) {
-        Ok(sig) => Ok(Draft {
-            sig,
-            sorts,
-            equations,
-            strands,
-            aims,
-        }),
-        Err(_) => Err(ReadError::NoMemory),
+        Ok(sig) => Ok(joined(sig, rest)),
+        Err(NoMemory) => Err(ReadError::NoMemory),
     }
 }
 
-// One more operator.
+// One more operator, which the signature doesn't refuse.
 pub(crate) fn declare(alloc: Global, draft: Draft, decl: OpDecl) -> Result<Draft, ReadError>
-    requires { length draft.sig.ops < 65535 }
+    requires few { length draft.sig.ops < 65535 }
+    requires sorts { HasSorts draft.sig.sorts decl }
+    requires declarable { next_fault draft.sig decl ≡ None }
     ensures { Gives result (Ok (with_operator draft decl)) }
 {
-    let Draft {
-        sig,
-        sorts,
-        equations,
-        strands,
-        aims,
-    } = draft;
+    let (sig, rest) = parted(draft);
     match sig.declare(alloc, decl) {
-        Ok(sig) => Ok(Draft {
-            sig,
-            sorts,
-            equations,
-            strands,
-            aims,
-        }),
-        Err(_) => Err(ReadError::NoMemory),
+        Ok(sig) => Ok(joined(sig, rest)),
+        Err(SigFail::NoMemory) => Err(ReadError::NoMemory),
+        Err(_) => unreachable!(),
     }
 }
 

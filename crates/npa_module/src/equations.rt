@@ -6,7 +6,7 @@ use crate::draft::{Draft, declare_equation, refuse};
 use crate::scopes::{Binders, add_bound, read_variables, scope_of};
 use crate::source::ReadError;
 use crate::terms::read_message;
-use crate::trees::{after, all_with, below, raw_below};
+use npa_reading::{after, all_with, below, raw_below};
 use npa_sig::{Equation, Scope, Sig};
 use npa_syntax::Node;
 use npa_text::symbols::{EQUALS_MARK, TERM, VARIABLE, VARIABLES};

@@ -1,21 +1,9 @@
 //! Module texts.
 #![tactic(auto)]
 
-#[cfg(test)]
-mod aim_tests;
 mod aims;
-#[cfg(test)]
-mod answers;
-#[cfg(test)]
-mod declaration_tests;
 mod draft;
-#[cfg(test)]
-mod equation_tests;
 mod equations;
-mod later;
-mod limits;
-#[cfg(test)]
-mod limits_tests;
 mod operators;
 mod parts;
 mod reader;
@@ -23,15 +11,9 @@ mod refusals;
 mod scopes;
 mod sorts;
 mod source;
-#[cfg(test)]
-mod strand_tests;
 mod strands;
-#[cfg(test)]
-mod syntax_tests;
 mod terms;
-#[cfg(test)]
-mod tests;
-pub mod trees;
 
+pub use npa_limits::LimitPart;
 pub use reader::read;
-pub use source::{LimitPart, ReadError, Source};
+pub use source::{ReadError, Source};

@@ -1,17 +1,19 @@
 ghost use Rattle.std.specs.Prelude.{◌≡◌, ◌≤◌, ◌||◌, is_some, length, map, Ok};
 ghost use Rattle.npa_sig.specs.Signature.{number_of};
 ghost use Rattle.npa_names.specs.Names.{place_of};
-ghost use Rattle.npa_module.specs.Trees.{seen, word_at};
-ghost use Rattle.npa_module.specs.Refusals.{Gives, unless};
+ghost use Rattle.npa_module.specs.Rooms.{IsNamed};
+ghost use Rattle.npa_reading.specs.Trees.{seen, word_at};
+ghost use Rattle.npa_reading.specs.Reading.{unless};
+ghost use Rattle.npa_module.specs.Refusals.{Gives};
 ghost use Rattle.npa_module.specs.Items.{op_read, operator_read, op_fault, is_pair, result_read};
 
 use crate::draft::{Draft, declare, refuse};
 use crate::refusals::{name_refusal, sort_refusal};
 use crate::sorts::{read_sort, read_sorts};
 use crate::source::ReadError;
-use crate::trees::{all_with, first_token, has, word_at};
 use npa_list::List;
 use npa_names::NameTable;
+use npa_reading::{all_with, first_token, has, word_at};
 use npa_sig::{FRESH, OpDecl};
 use npa_syntax::Node;
 use npa_text::symbols::{ARGUMENT_SORT, COMMUTATIVE, OPERATOR_NAME, RESULT_SORT};
@@ -19,6 +21,7 @@ use npa_text::{Token, Tokens, token_text};
 use std::alloc::Global;
 
 // One more operator.
+#[tactic(auto, using(crate::proofs::FormedItems::operator_declarable))]
 pub(crate) fn add_operator(
     alloc: Global,
     bytes: &[u8],
@@ -28,6 +31,7 @@ pub(crate) fn add_operator(
 ) -> Result<Draft, ReadError>
     requires few { length draft.sig.ops ≤ 4096 }
     requires sorts { length draft.sorts ≤ 65535 }
+    requires named { IsNamed draft }
     ensures { Gives result (op_read bytes.now tokens.now draft nodes.now) }
 {
     match read_operator(alloc, bytes, tokens, &draft, nodes) {

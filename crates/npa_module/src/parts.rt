@@ -1,6 +1,6 @@
 ghost use Rattle.std.specs.Prelude.{◌≡◌, ◌≤◌, ◌||◌, nat_lt, length, Some, IfOk};
 ghost use Rattle.npa_sig.specs.Meaning.{sort_at, one_fits};
-ghost use Rattle.npa_module.specs.Trees.{seen};
+ghost use Rattle.npa_reading.specs.Trees.{seen};
 ghost use Rattle.npa_module.specs.Rooms.{AreShort};
 ghost use Rattle.npa_module.specs.Refusals.{Gives};
 ghost use Rattle.npa_module.specs.Items.{strand_part_read, strand_part_over, arguments_read, argument_read, parameter_nodes};
@@ -10,9 +10,9 @@ use crate::refusals::{name_refusal, sort_refusal};
 use crate::scopes::with_fresh;
 use crate::source::ReadError;
 use crate::terms::read_term;
-use crate::trees::{first_token, listed, raw_below, word_at};
 use npa_list::List;
 use npa_model::Part;
+use npa_reading::{first_token, listed, raw_below, word_at};
 use npa_sig::{Scope, Sig, Strand, sort_at};
 use npa_syntax::{Node, child_of};
 use npa_term::{Term, Terms};

@@ -1,24 +1,23 @@
 ghost use Rattle.std.specs.Prelude.{IfOk, ◌≡◌, ◌≤◌, length};
-ghost use Rattle.npa_module.specs.Trees.{seen};
+ghost use Rattle.npa_reading.specs.Trees.{seen};
 ghost use Rattle.npa_module.specs.Drafts.{nothing};
 ghost use Rattle.npa_module.specs.Refusals.{Gives};
 ghost use Rattle.npa_module.specs.Items.{item_read, items_read};
-ghost use Rattle.npa_module.specs.Later.{items_of};
+ghost use Rattle.npa_limits.specs.Later.{items_of};
 ghost use Rattle.npa_module.specs.Rooms.{HasRoom, HaveRoom};
-ghost use Rattle.npa_module.specs.Forms.{IsWellFormedSource};
+ghost use Rattle.npa_module.specs.Forms.{IsWellFormedSource, IsPlainSource};
 ghost use Rattle.npa_module.specs.Modules.{source_of, verdict, text_refusal, IsRead, AnswersModule};
 
 use crate::aims::add_aim;
 use crate::draft::{Draft, empty_draft, finished};
 use crate::equations::add_equation;
-use crate::later::later_item;
-use crate::limits::first_limit;
 use crate::operators::add_operator;
 use crate::sorts::{add_sort, add_subsort};
 use crate::source::{ReadError, Source};
 use crate::strands::add_strand;
-use crate::trees::{all_with, below, word_of};
+use npa_limits::{first_limit, later_item};
 use npa_list::List;
+use npa_reading::{all_with, below, word_of};
 use npa_syntax::Node;
 use npa_text::symbols::{ITEM, MODULE, PROTOCOL_NAME};
 use npa_text::terminals::{AIM, EQ, INTRUDER, OP, SORT, STRAND, SUBSORT};
@@ -31,12 +30,13 @@ use std::alloc::Global;
 /// the first word in the order of the text that breaks a rule on names or on sorts. A name stands for
 /// what was declared earlier in the text. The variables of a strand or an aim are numbered by their
 /// places, a strand's fresh values behind them; those of an equation by their first occurrence in its
-/// sides, without those that don't occur. What is read is well formed.
+/// sides, without those that don't occur. What is read is well formed, and no fresh name stands in it.
 pub fn read(alloc: Global, bytes: &[u8]) -> Result<Source, ReadError>
     requires { length bytes.now ≤ 1048576 }
     ensures answer { IsRead bytes.now result }
     ensures only { AnswersModule bytes.now result }
     ensures form { IfOk result IsWellFormedSource }
+    ensures plain { IfOk result IsPlainSource }
 {
     match parse(alloc, &module_grammar(), bytes) {
         Ok(Parsed { tokens, nodes }) => read_nodes(alloc, bytes, &tokens, nodes.as_slice()),

@@ -1,7 +1,7 @@
 ghost use Rattle.std.specs.Prelude.{◌≡◌, ◌||◌, ◌++◌, ◌≤◌, false, length, is_some, replicate, IfOk, OnOk};
 ghost use Rattle.npa_names.specs.Names.{place_of};
 ghost use Rattle.npa_sig.specs.Signature.{number_of};
-ghost use Rattle.npa_module.specs.Trees.{seen};
+ghost use Rattle.npa_reading.specs.Trees.{seen};
 ghost use Rattle.npa_module.specs.Refusals.{Gives};
 ghost use Rattle.npa_module.specs.Items.{unbound, bound, behind, is_taken, fresh_read, variable_read, variables_read, scope_from};
 
@@ -9,9 +9,9 @@ use crate::draft::Draft;
 use crate::refusals::name_refusal;
 use crate::sorts::read_sort;
 use crate::source::ReadError;
-use crate::trees::{first_token, word_at};
 use npa_list::List;
 use npa_names::NameTable;
+use npa_reading::{first_token, word_at};
 use npa_sig::{FRESH, Scope, Scoped, Sig, SortNums};
 use npa_syntax::Node;
 use npa_term::Var;
@@ -185,18 +185,20 @@ pub(crate) fn with_fresh(alloc: Global, vars: &[u16], fresh: usize) -> Result<So
 pub(crate) fn joined(alloc: Global, first: &[Name], second: &[Name]) -> Result<Names, AllocError>
     ensures { IfOk result (λ names. names ≡ first.now ++ second.now) }
 {
-    let mut names = List::new(alloc);
-    push_names(alloc, &mut names, first)?;
-    push_names(alloc, &mut names, second)?;
-    Ok(names)
+    let mut names = copied(alloc, first)?;
+    let mut more = copied(alloc, second)?;
+    names.append(&mut more)?;
+    Ok(List::from_vec(names))
 }
 
-// Adds names at the end.
-fn push_names(alloc: Global, names: &mut Names, more: &[Name]) -> Result<(), AllocError>
-    ensures { OnOk result (names.new ≡ names.old ++ more.now) }
+// Copies of names, in the same order.
+fn copied(alloc: Global, names: &[Name]) -> Result<Vec<Name>, AllocError>
+    ensures { IfOk result (λ copies. copies.items ≡ names.now) }
 {
-    for name in more {
-        names.push(List::from_slice(alloc, name.as_slice())?)?;
+    let mut copies = Vec::new(alloc);
+    for name in names {
+        let copy = List::from_slice(alloc, name.as_slice())?;
+        copies.push(copy)?;
     }
-    Ok(())
+    Ok(copies)
 }

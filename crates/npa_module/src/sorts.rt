@@ -1,15 +1,15 @@
 ghost use Rattle.std.specs.Prelude.{◌≡◌, ◌≤◌, length, Some};
 ghost use Rattle.npa_module.specs.Rooms.{IsNamed};
-ghost use Rattle.npa_module.specs.Trees.{seen};
+ghost use Rattle.npa_reading.specs.Trees.{seen};
 ghost use Rattle.npa_module.specs.Refusals.{Gives};
 ghost use Rattle.npa_module.specs.Items.{sort_read, subsort_read, closes_cycle, one_sort_read, sorts_read};
 
 use crate::draft::{Draft, declare_sort, put_below, refuse, sort_number};
 use crate::refusals::{name_refusal, sort_refusal};
 use crate::source::ReadError;
-use crate::trees::first_token;
 use npa_list::List;
 use npa_names::NameTable;
+use npa_reading::first_token;
 use npa_sig::{FRESH, Sig, SortNums};
 use npa_syntax::Node;
 use npa_text::symbols::{LOWER_SORT, SORT_NAME, UPPER_SORT};

@@ -1,7 +1,7 @@
 ghost use Rattle.std.specs.Prelude.{◌≡◌, ◌≤◌, false, is_some, length, IfOk};
 ghost use Rattle.npa_names.specs.Names.{place_of};
 ghost use Rattle.npa_text.specs.Texts.{text_of};
-ghost use Rattle.npa_module.specs.Trees.{seen};
+ghost use Rattle.npa_reading.specs.Trees.{seen};
 ghost use Rattle.npa_module.specs.Refusals.{Gives};
 ghost use Rattle.npa_module.specs.Items.{strand_read, one_strand_read, strand_behind, strand_over, event_read, events_read, fresh_nodes};
 
@@ -10,8 +10,8 @@ use crate::refusals::name_refusal;
 use crate::scopes::{Binders, behind, joined, read_fresh, read_variables, scope_of, with_fresh};
 use crate::source::ReadError;
 use crate::terms::read_message;
-use crate::trees::{all_with, below, first_token, listed, raw_below};
 use npa_list::List;
+use npa_reading::{all_with, below, first_token, listed, raw_below};
 use npa_sig::{Event, Events, Scope, Sig, Strand};
 use npa_syntax::Node;
 use npa_text::symbols::{

@@ -1,5 +1,5 @@
 use Rattle.std.proofs.Common.{ap, sym, ◌∙◌}
-use Rattle.npa_module.specs.Trees.{seen}
+use Rattle.npa_reading.specs.Trees.{seen}
 use Rattle.npa_module.specs.declared.scopes.Binders.{Binders}
 use Rattle.npa_module.proofs.Occurring.{variables_alone}
 use Rattle.npa_module.proofs.equations.read_equation.Goals as goal

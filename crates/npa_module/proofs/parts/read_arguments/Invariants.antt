@@ -1,7 +1,7 @@
 use Rattle.std.proofs.Common.{◌≡◌, ◌≤◌, length, drop}
-use Rattle.npa_module.specs.Trees.{seen}
+use Rattle.npa_reading.specs.Trees.{seen}
 use Rattle.npa_module.specs.Items.{arguments_read}
-use Rattle.npa_module.proofs.Reading.{with_front}
+use Rattle.npa_reading.specs.Reading.{with_front}
 use Rattle.npa_module.proofs.parts.read_arguments.Given as goal
 
 abbrev pub invariant-loop-k : goal.invariant-loop-k

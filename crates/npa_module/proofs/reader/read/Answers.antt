@@ -1,26 +1,33 @@
-use Rattle.std.proofs.Common.{refl, Err}
+use Rattle.std.proofs.Common.{◌≡◌, ◌∙◌}
 use Rattle.npa_syntax.specs.Languages.{language}
-use Rattle.npa_module.proofs.Answering.{answer_parsed, only_parsed, answer_stopped, only_stopped}
-use Rattle.npa_module.proofs.Answered.{formed_answer}
+use Rattle.npa_text.specs.Languages.{module_language}
+use Rattle.npa_reading.proofs.Answering.{parsed_answer, parsed_only, stopped_answer, stopped_only}
+use Rattle.npa_module.specs.Modules.{module_reader}
+use Rattle.npa_module.proofs.Answered.{formed_answer, plain_answer, same_refusal}
 use Rattle.npa_module.proofs.reader.read.Goals as goal
 
 pub returns-in-Ok-clause-answer : goal.returns-in-Ok-clause-answer
 returns-in-Ok-clause-answer c =
-    answer_parsed (language c.module_grammar.result) c.args.bytes.now c.in-Ok.field-0 c.in-Ok.field-0.tokens c.as_slice.result.now c.read_nodes.result
-    c.module_grammar.ensures refl c.as_slice.ensures c.in-Ok.ensures.found c.read_nodes.ensures
+    parsed_answer module_language (module_reader c.args.bytes.now) c.args.bytes.now (language c.module_grammar.result) c.module_grammar.ensures c.parse.result c.in-Ok.field-0 c.in-Ok.is
+    c.as_slice.result.now c.as_slice.ensures c.read_nodes.result c.read_nodes.ensures c.in-Ok.ensures.found
 
 pub returns-in-Ok-clause-only : goal.returns-in-Ok-clause-only
 returns-in-Ok-clause-only c =
-    only_parsed (language c.module_grammar.result) c.args.bytes.now c.in-Ok.field-0 c.in-Ok.field-0.tokens c.as_slice.result.now c.read_nodes.result
-    c.module_grammar.ensures refl c.as_slice.ensures c.in-Ok.ensures.only c.in-Ok.ensures.refuses c.read_nodes.ensures
+    parsed_only module_language (module_reader c.args.bytes.now) c.args.bytes.now (language c.module_grammar.result) c.module_grammar.ensures c.parse.result c.in-Ok.field-0 c.in-Ok.is
+    c.as_slice.result.now c.as_slice.ensures c.read_nodes.result c.read_nodes.ensures c.parse.ensures.only c.parse.ensures.refuses
 
 pub returns-in-Err-clause-answer : goal.returns-in-Err-clause-answer
 returns-in-Err-clause-answer c =
-    answer_stopped (language c.module_grammar.result) c.args.bytes.now c.in-Err.fault c.text_refusal.result (Err c.in-Err.fault) c.module_grammar.ensures refl c.in-Err.ensures.fault c.text_refusal.ensures
+    stopped_answer module_language (module_reader c.args.bytes.now) c.args.bytes.now (language c.module_grammar.result) c.module_grammar.ensures c.parse.result c.in-Err.fault c.in-Err.is
+    c.text_refusal.result (c.text_refusal.ensures ∙ same_refusal c.args.bytes.now c.in-Err.fault) c.parse.ensures.fault
 
 pub returns-in-Err-clause-only : goal.returns-in-Err-clause-only
 returns-in-Err-clause-only c =
-    only_stopped (language c.module_grammar.result) c.args.bytes.now c.in-Err.fault c.text_refusal.result (Err c.in-Err.fault) c.module_grammar.ensures refl c.in-Err.ensures.only c.in-Err.ensures.refuses c.text_refusal.ensures
+    stopped_only module_language (module_reader c.args.bytes.now) c.args.bytes.now (language c.module_grammar.result) c.module_grammar.ensures c.parse.result c.in-Err.fault c.in-Err.is
+    c.text_refusal.result (c.text_refusal.ensures ∙ same_refusal c.args.bytes.now c.in-Err.fault) c.parse.ensures.only c.parse.ensures.refuses
 
 pub returns-in-Ok-clause-form : goal.returns-in-Ok-clause-form
 returns-in-Ok-clause-form c = formed_answer c.args.bytes.now c.read_nodes.result (returns-in-Ok-clause-answer c)
+
+pub returns-in-Ok-clause-plain : goal.returns-in-Ok-clause-plain
+returns-in-Ok-clause-plain c = plain_answer c.args.bytes.now c.read_nodes.result c.requires (returns-in-Ok-clause-answer c)

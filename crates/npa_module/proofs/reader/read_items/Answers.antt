@@ -1,5 +1,5 @@
 use Rattle.std.proofs.Common.{arith}
-use Rattle.npa_module.specs.Trees.{seen}
+use Rattle.npa_reading.specs.Trees.{seen}
 use Rattle.npa_module.specs.Drafts.{nothing}
 use Rattle.npa_module.specs.Items.{items_read}
 use Rattle.npa_module.proofs.Growth.{item_room, item_fails, next_item, next_room}

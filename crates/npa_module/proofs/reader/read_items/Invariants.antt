@@ -1,5 +1,5 @@
 use Rattle.std.proofs.Common.{◌≡◌, drop}
-use Rattle.npa_module.specs.Trees.{seen}
+use Rattle.npa_reading.specs.Trees.{seen}
 use Rattle.npa_module.specs.Drafts.{nothing}
 use Rattle.npa_module.specs.Items.{items_read}
 use Rattle.npa_module.specs.Rooms.{HaveRoom}

@@ -1,5 +1,5 @@
 use Rattle.std.proofs.Common.{ap, sym, ◌∙◌, Ok}
-use Rattle.npa_module.specs.Trees.{seen}
+use Rattle.npa_reading.specs.Trees.{seen}
 use Rattle.npa_module.proofs.Whole.{tree_read}
 use Rattle.npa_module.proofs.reader.read_tree.Goals as goal
 

@@ -1,5 +1,5 @@
 use Rattle.std.proofs.Common.{◌≡◌, drop, length}
-use Rattle.npa_module.specs.Trees.{seen}
+use Rattle.npa_reading.specs.Trees.{seen}
 use Rattle.npa_module.specs.Items.{fresh_read, unbound}
 use Rattle.npa_module.proofs.scopes.read_fresh.Given as goal
 

@@ -1,7 +1,7 @@
 use Rattle.std.proofs.Common.{◌≡◌, drop}
-use Rattle.npa_module.specs.Trees.{seen}
+use Rattle.npa_reading.specs.Trees.{seen}
 use Rattle.npa_module.specs.Items.{sorts_read}
-use Rattle.npa_module.proofs.Reading.{with_front}
+use Rattle.npa_reading.specs.Reading.{with_front}
 use Rattle.npa_module.proofs.sorts.read_sorts.Given as goal
 
 abbrev pub invariant-loop-node : goal.invariant-loop-node

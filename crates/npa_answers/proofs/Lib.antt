@@ -1,0 +1,3 @@
+pub mod Equations
+pub mod OneModule
+pub mod Showing

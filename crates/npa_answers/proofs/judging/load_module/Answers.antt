@@ -1,0 +1,4 @@
+use Rattle.npa_answers.proofs.judging.load_module.Goals as goal
+
+pub returns-in-Ok-clause-form : goal.returns-in-Ok-clause-form
+returns-in-Ok-clause-form g c = c.in-Ok.ensures.form

@@ -1,0 +1,4 @@
+pub mod Commands
+pub mod Checks
+pub mod Lines
+pub mod Answers

@@ -1,0 +1,108 @@
+ghost use Rattle.std.specs.Prelude.{◌≡◌, Some, IfOk};
+ghost use Rattle.npa_answers.specs.Commands.{usage_line};
+ghost use Rattle.npa_answers.specs.Lines.{refusal, ground_text, ground_status, refused_equation, refused_no_aim, stop_line};
+
+use crate::checks::CheckFault;
+use crate::judging::Stop;
+use npa_module::ReadError;
+use npa_outside::{LIMIT_BYTES, Printed, put_counted, put_numbered, put_place, put_word, told};
+use npa_sig::{GroundFault, Sig};
+use npa_term::NoMemory;
+use std::alloc::{AllocError, Global};
+
+// The line for words that are no command.
+const USAGE: &[u8] =
+    b"usage: npa check FILE | search FILE AIM [--budget N] [--workers N] | verify FILE AIM CERT | replay FILE AIM RUN | gen N [--workers N]\n";
+
+/// The line for words that are no command, or one that isn't built yet.
+#[tactic(auto, unfolding(crate::specs::Commands::usage_line))]
+pub(crate) fn usage(alloc: Global) -> Result<Printed, AllocError>
+    ensures text { IfOk result (λ a. a.text.items ≡ usage_line) }
+    ensures status { IfOk result (λ a. a.status ≡ 2) }
+{
+    told(alloc, USAGE, 2)
+}
+
+/// The line for a file that holds no module that passes; there is none for want of memory.
+pub(crate) fn stopped(alloc: Global, stop: &Stop) -> Result<Printed, NoMemory>
+    ensures { IfOk result (λ a. stop_line stop.now ≡ Some (a.text.items, a.status)) }
+{
+    match stop {
+        Stop::TooLong => Ok(told(alloc, LIMIT_BYTES, 7)?),
+        Stop::Refused(error) => refusal(alloc, error),
+        Stop::Failed(source, CheckFault::Ground(fault)) => {
+            groundless(alloc, &source.protocol.sig, *fault)
+        }
+        Stop::Failed(_, CheckFault::Equation(number)) => refused_equation(alloc, *number),
+    }
+}
+
+// The line for a module text that is refused; there is none for want of memory.
+fn refusal(alloc: Global, error: &ReadError) -> Result<Printed, NoMemory>
+    ensures { IfOk result (λ a. refusal error.now ≡ Some (a.text.items, a.status)) }
+{
+    let mut text = Vec::new(alloc);
+    let mut status = 3;
+    match error {
+        ReadError::Syntax { line, col } => {
+            put_place(&mut text, b"refused syntax ", *line, *col)?;
+        }
+        ReadError::Later { line, col } => {
+            put_place(&mut text, b"refused later ", *line, *col)?;
+        }
+        ReadError::Limit { part, value } => {
+            put_counted(&mut text, b"limit ", part.word(), *value)?;
+            status = 7;
+        }
+        ReadError::Name { name, line, col } => {
+            put_word(&mut text, b"refused name ", name.as_slice(), *line, *col)?;
+        }
+        ReadError::Sort { name, line, col } => {
+            put_word(&mut text, b"refused sort ", name.as_slice(), *line, *col)?;
+        }
+        ReadError::NoMemory => return Err(NoMemory),
+    }
+    Ok(Printed { text, status })
+}
+
+// The line for a sort that has no ground term, or none that is small enough.
+fn groundless(alloc: Global, sig: &Sig, fault: GroundFault) -> Result<Printed, NoMemory>
+    ensures text { IfOk result (λ a. a.text.items ≡ ground_text sig.now fault) }
+    ensures status { IfOk result (λ a. a.status ≡ ground_status fault) }
+{
+    let mut text = Vec::new(alloc);
+    match fault {
+        GroundFault::Inhabited(sort) => {
+            text.extend_from_slice(b"refused inhabited ")?;
+            text.extend_from_slice(sig.sort_name(sort))?;
+            text.extend_from_slice(b"\n")?;
+            Ok(Printed { text, status: 3 })
+        }
+        GroundFault::Ground(sort, symbols) => {
+            put_counted(&mut text, b"limit ground ", sig.sort_name(sort), symbols)?;
+            Ok(Printed { text, status: 7 })
+        }
+    }
+}
+
+// The line for an equation that doesn't cancel, by its number from 1.
+fn refused_equation(alloc: Global, number: u64) -> Result<Printed, NoMemory>
+    ensures text { IfOk result (λ a. a.text.items ≡ refused_equation number) }
+    ensures status { IfOk result (λ a. a.status ≡ 3) }
+{
+    let mut text = Vec::new(alloc);
+    put_numbered(&mut text, b"refused equation ", number)?;
+    text.extend_from_slice(b"\n")?;
+    Ok(Printed { text, status: 3 })
+}
+
+/// The line for an aim that isn't in the module.
+pub(crate) fn refused_no_aim(alloc: Global, word: &[u8]) -> Result<Printed, AllocError>
+    ensures text { IfOk result (λ a. a.text.items ≡ refused_no_aim word.now) }
+    ensures status { IfOk result (λ a. a.status ≡ 3) }
+{
+    let mut text = Vec::from_slice(alloc, b"refused no aim ")?;
+    text.extend_from_slice(word)?;
+    text.extend_from_slice(b"\n")?;
+    Ok(Printed { text, status: 3 })
+}

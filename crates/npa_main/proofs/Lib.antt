@@ -1,6 +1,0 @@
-pub mod Tables
-pub mod RunLaws
-pub mod OneRun
-pub mod OneModule
-pub mod Showing
-pub mod Equations

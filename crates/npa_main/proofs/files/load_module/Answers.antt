@@ -1,4 +1,0 @@
-use Rattle.npa_main.proofs.files.load_module.Goals as goal
-
-pub returns-in-Ok-clause-form : goal.returns-in-Ok-clause-form
-returns-in-Ok-clause-form g c = c.in-Ok.ensures.form

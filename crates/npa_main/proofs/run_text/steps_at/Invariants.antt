@@ -1,7 +1,0 @@
-use Rattle.std.proofs.Common.{◌≡◌, map, take}
-use Rattle.npa_module.specs.Trees.{seen}
-use Rattle.npa_main.specs.RunTexts.{step_at}
-use Rattle.npa_main.proofs.run_text.steps_at.Given as goal
-
-abbrev pub invariant-loop-node : goal.invariant-loop-node
-invariant-loop-node l = l.steps ≡ map (step_at l.bytes l.tokens) (seen (take l.node-index l.nodes))

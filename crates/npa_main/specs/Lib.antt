@@ -1,4 +1,0 @@
-pub mod RunTexts
-pub mod Texts
-pub mod Answers
-pub mod Loads

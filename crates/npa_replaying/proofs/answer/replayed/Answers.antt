@@ -1,0 +1,12 @@
+use Rattle.npa_replaying.proofs.OneRun.{same_theory, is_replayed, is_only}
+use Rattle.npa_replaying.proofs.answer.replayed.Goals as goal
+
+pub returns-clause-replayed : goal.returns-clause-replayed
+returns-clause-replayed c =
+    is_replayed c.in_ok-th.th c.args.protocol.now (same_theory c.in_ok-th.th c.args.protocol.now c.in_ok-th.ensures.sig c.in_ok-th.ensures.equations) c.args.aim.now c.args.run.now c.in_ok-answer.answer
+    c.answered.result c.in_ok-answer.ensures.answer c.answered.ensures.text c.answered.ensures.status
+
+pub returns-clause-only : goal.returns-clause-only
+returns-clause-only c =
+    is_only c.in_ok-th.th c.args.protocol.now (same_theory c.in_ok-th.th c.args.protocol.now c.in_ok-th.ensures.sig c.in_ok-th.ensures.equations) c.args.aim.now c.args.run.now c.in_ok-answer.answer
+    c.answered.result c.requires.cancelling c.in_ok-answer.ensures.only c.answered.ensures.text c.answered.ensures.status
