@@ -4,7 +4,6 @@ pub mod Soundness
 pub mod Stepping
 pub mod Histories
 pub mod Counting
-pub mod Ranges
 pub mod Inversions
-pub mod Runs
 pub mod Uniqueness
+pub mod Ranges

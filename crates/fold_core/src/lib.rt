@@ -7,12 +7,7 @@ mod error;
 mod event;
 pub mod facts;
 mod folding;
-mod numbers;
-pub mod replay;
-#[cfg(test)]
-mod tests;
 
 pub use error::{ExpandFail, Large, Measure, NoMemory};
 pub use event::{Event, Events, Origin, Placed, PlacedList, Status};
 pub use folding::Folding;
-pub use numbers::Numbers;

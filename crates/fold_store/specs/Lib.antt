@@ -1,7 +1,6 @@
 pub mod Forest
 pub mod Hints
 pub mod Journal
-pub mod Ladder
 pub mod Log
 pub mod Store
 pub mod Table

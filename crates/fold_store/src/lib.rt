@@ -11,8 +11,6 @@ mod ledger;
 mod log;
 mod store;
 mod table;
-#[cfg(test)]
-mod tests;
 mod work;
 
 pub use answer::{Places, Taken, Verdict};
