@@ -1,0 +1,11 @@
+//! Tests of the program over files in memory.
+#![tactic(auto)]
+
+#[cfg(test)]
+mod answers;
+#[cfg(test)]
+mod commands;
+#[cfg(test)]
+mod modules;
+#[cfg(test)]
+mod runs;
