@@ -8,8 +8,11 @@ pub mod Equality
 pub mod GroundLaws
 pub mod Identity
 pub mod Induction
+pub mod Lifted
+pub mod Numbered
 pub mod OrderLaws
 pub mod Parts
+pub mod Renumbered
 pub mod Rows
 pub mod RenamedLaws
 pub mod SameCases

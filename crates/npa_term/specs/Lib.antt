@@ -3,6 +3,7 @@ pub mod Bound
 pub mod Canonical
 pub mod Composition
 pub mod Computed
+pub mod Numbering
 pub mod Order
 pub mod Parts
 pub mod Same

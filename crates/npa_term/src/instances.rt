@@ -7,7 +7,8 @@ use crate::canonical::{canon, sort_arguments};
 use crate::error::{NoMemory, TermFail};
 use crate::size::symbols;
 use crate::subst::Subst;
-use crate::term::Term;
+use crate::term::{Term, copy};
+use npa_list::List;
 use std::alloc::Global;
 
 /// The most symbols that a term may have where the size of terms is bounded.
@@ -30,6 +31,27 @@ pub fn instance(alloc: Global, s: &Subst, t: &Term) -> Result<Term, NoMemory>
                 made.push(instance(alloc, s, arg)?)?;
             }
             Ok(Term::App(*op, sort_arguments(*op, made)))
+        }
+    }
+}
+
+/// The term with the term of each bound variable in its place, and nothing else changed: `instance`
+/// without the canonical form.
+pub fn replace(alloc: Global, s: &Subst, t: &Term) -> Result<Term, NoMemory>
+    ensures { IfOk result (λ u. u ≡ applied s.now t.now) }
+{
+    match t {
+        Term::Var(v) => match s.get(*v) {
+            Some(value) => copy(alloc, value),
+            None => Ok(Term::Var(*v)),
+        },
+        Term::Name(n) => Ok(Term::Name(*n)),
+        Term::App(op, args) => {
+            let mut made = Vec::with_capacity(alloc, args.len())?;
+            for arg in args.as_slice() {
+                made.push(replace(alloc, s, arg)?)?;
+            }
+            Ok(Term::App(*op, List::from_vec(made)))
         }
     }
 }

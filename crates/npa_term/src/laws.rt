@@ -1,7 +1,7 @@
 //! Laws of the notions that the contracts speak of. Each function does nothing: its clauses are
 //! the laws, for the proofs of the crates above.
 
-ghost use Rattle.std.specs.Prelude.{◌≡◌, ◌↔◌, ℕ, List, [], map, Contains};
+ghost use Rattle.std.specs.Prelude.{◌≡◌, ◌↔◌, ◌<◌, ℕ, List, [], map, flat_map, length, Contains};
 ghost use Rattle.std.specs.Cmp.{IsTotalOrder};
 ghost use Rattle.std.specs.declared.cmp.Ordering.TheVariants.{Equal};
 ghost use Rattle.npa_term.specs.declared.term.Op.{Op};
@@ -10,7 +10,15 @@ ghost use Rattle.npa_term.specs.declared.term.Var.{Var as Variable};
 ghost use Rattle.npa_term.specs.Agreeing.{Agrees, ValuesAgree};
 ghost use Rattle.npa_term.specs.Bound.{applied, value_of};
 ghost use Rattle.npa_term.specs.Canonical.{canonical};
+ghost use Rattle.npa_term.specs.Numbering.{
+  numbering,
+  unnumbering,
+  renumbered,
+  variables_once,
+  IsNumbered,
+};
 ghost use Rattle.npa_term.specs.Order.{term_cmp};
+ghost use Rattle.npa_term.specs.Parts.{image, least_sort};
 ghost use Rattle.npa_term.specs.Same.{Same, SameAll, SameArguments};
 ghost use Rattle.npa_term.specs.Symbols.{symbol_count};
 ghost use Rattle.npa_term.specs.Variables.{IsGround, raised_var, renamed, variables};
@@ -91,4 +99,21 @@ pub fn renaming_laws()
         → term_cmp (renamed base t) (renamed base u) ≡ term_cmp t u }
     ensures canonical { (base : ℕ) (t : Term)
         → canonical (renamed base t) ≡ renamed base (canonical t) }
+{}
+
+/// Numbering variables anew is one to one and keeps sorts; the new numbers are below the count of
+/// the variables. The terms and those that are numbered anew are instances of each other.
+pub fn numbering_laws()
+    ensures numbered { (ts : List Term) (v : Variable) → Contains (flat_map variables ts) v
+        → IsNumbered 0 (variables_once ts) v }
+    ensures back { (ts : List Term) (t : Term) → Contains ts t
+        → applied (unnumbering ts) (applied (numbering ts) t) ≡ t }
+    ensures sorts { (ts : List Term) (v : Variable)
+        → (least_sort (image (numbering ts) v) ≡ v.sort)
+        × (least_sort (image (unnumbering ts) v) ≡ v.sort) }
+    ensures below { (ts : List Term) (v : Variable) → Contains (flat_map variables (renumbered ts)) v
+        → v.num < length (variables_once ts) }
+    ensures covering { (ts : List Term) → SameAll (map (applied (numbering ts)) ts) (renumbered ts) }
+    ensures covered { (ts : List Term)
+        → SameAll (map (applied (unnumbering ts)) (renumbered ts)) ts }
 {}

@@ -9,6 +9,7 @@ mod equal;
 mod error;
 mod instances;
 mod laws;
+mod numbers;
 mod order;
 mod renaming;
 mod size;
@@ -20,11 +21,12 @@ pub use commuted::equals;
 pub use composition::compose;
 pub use equal::same;
 pub use error::{NoMemory, TermFail};
-pub use instances::{MAX_SYMBOLS, apply, instance, symbols_under};
+pub use instances::{MAX_SYMBOLS, apply, instance, replace, symbols_under};
 pub use laws::{
-    canonical_laws, equality_cases, equality_laws, ground_laws, instance_laws, order_laws,
-    renaming_laws,
+    canonical_laws, equality_cases, equality_laws, ground_laws, instance_laws, numbering_laws,
+    order_laws, renaming_laws,
 };
+pub use numbers::{numbering, renumber};
 pub use order::cmp;
 pub use renaming::rename;
 pub use size::symbols;
