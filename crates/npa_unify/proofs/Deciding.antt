@@ -1,5 +1,5 @@
 -- Whether there is a unifier, by the ends of the first branch.
-use Rattle.std.proofs.Common.{◌≡◌, ℕ, ◌≤◌, ◌^◌, List, [], ◌∷◌, map, refl, sym, ◌∙◌, ap, subst}
+use Rattle.std.proofs.Common.{◌≡◌, ℕ, ◌≤◌, Ok, ◌^◌, List, [], ◌∷◌, map, refl, sym, ◌∙◌, ap, subst}
 use Rattle.std.specs.Prelude.{Contains, flat_map}
 use Rattle.std.proofs.lemmas.List.{append-nil}
 use Rattle.npa_sorts.specs.Subsorts.{Subsorts, AreSorts, IsSort}
@@ -7,10 +7,10 @@ use Rattle.npa_sorts.proofs.LowerLaws.{IsAcyclic}
 use Rattle.npa_term.specs.declared.term.Var.{Var as Variable}
 use Rattle.npa_term.specs.declared.term.Term.{Term}
 use Rattle.npa_unify.specs.declared.search.State.{State}
-use Rattle.npa_unify.specs.Answers.{finished, started}
+use Rattle.npa_unify.specs.Answers.{finished, judged, started, unifiers}
 use Rattle.npa_unify.specs.Branches.{Branch, ends, pair_variables}
-use Rattle.npa_unify.specs.Seen.{AreSound, IsReached, IsSound, full_pairs, goal_pairs, raw, seen, seen_all, seen_as}
-use Rattle.npa_unify.specs.Unifiers.{AreLow, HaveOneSort, IsUnifier}
+use Rattle.npa_unify.specs.Seen.{AreSound, NoneEquates, IsReached, IsSound, full_pairs, goal_pairs, raw, seen, seen_all, seen_as}
+use Rattle.npa_unify.specs.Unifiers.{AreLow, HaveOneSort, IsComplete, IsUnifier}
 use Rattle.npa_unify.proofs.Answering.{none_exactly, unifies}
 use Rattle.npa_unify.proofs.Members.{here, only_one}
 use Rattle.npa_unify.proofs.Progress.{visited_first}
@@ -53,3 +53,14 @@ pub no_unifier : (o : Subsorts) (ps : List (Term × Term)) (next : ℕ) (ws : Li
 no_unifier o ps next ws order acyclic low e none =
     let all : ends o (started ps next) ≡ [] = sym (append-nil (ends o (started ps next))) ∙ ap (flat_map (ends o)) (sym e) ∙ none in
     (none_exactly o ps next order acyclic low).0 (ap (map (λ (c : Branch). finished c.bound)) all)
+
+-- pairs that nothing equates have no unifier
+
+pub none_equates : (o : Subsorts) (ps : List (Term × Term)) → NoneEquates ps → (s : List (Variable × Term)) → IsUnifier o ps s → ⊥
+none_equates o ps none s u = none s u.equal
+
+pub none_listed : (o : Subsorts) (ps : List (Term × Term)) (next : ℕ) → AreSorts o → IsAcyclic o → AreLow ps next → NoneEquates ps → judged (unifiers o ps next) ≡ Ok []
+none_listed o ps next order acyclic low none = ap judged ((none_exactly o ps next order acyclic low).1 (none_equates o ps none))
+
+pub none_complete : (o : Subsorts) (ps : List (Term × Term)) (next : ℕ) (ss : List (List (Variable × Term))) → NoneEquates ps → IsComplete o ps next ss
+none_complete o ps next ss none = λ u is. absurd (none_equates o ps none u is)

@@ -1,5 +1,7 @@
 pub mod Answering
 pub mod Choosing
+pub mod Clashing
+pub mod Comparing
 pub mod Deciding
 pub mod Ending
 pub mod Finishing

@@ -5,7 +5,10 @@ use Rattle.npa_sorts.specs.Subsorts.{Subsorts, AreSorts, IsSort}
 use Rattle.npa_term.specs.declared.term.Var.{Var as Variable}
 use Rattle.npa_term.specs.declared.term.Term.{Term}
 use Rattle.npa_term.specs.declared.term.Term.TheVariants.{Var, Name, App, App'}
-use Rattle.npa_term.specs.Bound.{same_var}
+use Rattle.npa_term.specs.Bound.{applied, same_var}
+use Rattle.npa_term.specs.Canonical.{canonical}
+use Rattle.npa_term.specs.Computed.{turned}
+use Rattle.npa_term.specs.Same.{Same, SameAll}
 use Rattle.npa_term.specs.Symbols.{symbol_count}
 use Rattle.npa_term.specs.Variables.{variables}
 use Rattle.npa_unify.specs.declared.heads.Head.{Head}
@@ -39,6 +42,25 @@ solved bs = solved_after [] bs
 -- A term with all bindings put in.
 abbrev pub full : List (Variable × Term) → Term → Term
 full bs t = resolved (solved bs) t
+
+-- The canonical form of a term with all bindings put in.
+abbrev pub form : List (Variable × Term) → Term → Term
+form bs t = canonical (full bs t)
+
+-- Arguments as they stand, or two of them in the other order.
+abbrev pub placed : Bool → List Term → List Term
+placed b ts = cond b (turned ts) ts
+
+-- No substitution makes the terms equal, or all terms of two lists place by place, or the members of
+-- each pair.
+abbrev pub AreNeverEqual : Term → Term → Type 0
+AreNeverEqual t u = (s : List (Variable × Term)) → Same (applied s t) (applied s u) → ⊥
+
+abbrev pub AreNeverAllEqual : List Term → List Term → Type 0
+AreNeverAllEqual ts us = (s : List (Variable × Term)) → SameAll (map (applied s) ts) (map (applied s) us) → ⊥
+
+abbrev pub NoneEquates : List (Term × Term) → Type 0
+NoneEquates ps = (s : List (Variable × Term)) → ((t u : Term) → Contains ps (t, u) → Same (applied s t) (applied s u)) → ⊥
 
 -- The value of a variable that a binding is of; any other term as it is.
 abbrev pub followed : Variable × Term → Term → Term

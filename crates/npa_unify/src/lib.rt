@@ -3,11 +3,13 @@
 #![tactic(auto)]
 
 mod bindings;
+mod clashes;
 mod error;
 mod fitting;
 mod heads;
 mod laws;
 mod occurrences;
+mod order;
 mod search;
 mod sizes;
 mod substs;

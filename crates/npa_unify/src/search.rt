@@ -8,10 +8,11 @@ ghost use Rattle.npa_unify.specs.Branches.{Branch, are_two, arranged, at_argumen
 ghost use Rattle.npa_unify.specs.Searches.{nexts, splits};
 ghost use Rattle.npa_unify.specs.Seen.{AreSound, IsReached, IsSound, IsUnbound, full, full_pairs, goal_pairs, head_term, raw, seen, seen_all};
 
-use crate::heads::{Binding, Head, head_of, made, sort_of_head, walk};
+use crate::heads::{Binding, Head, sort_of_head, walk};
 use crate::occurrences::is_in;
+use crate::order::order;
 use npa_sorts::Sorts;
-use npa_term::{NoMemory, Op, Term, TermPairs, Var, cmp};
+use npa_term::{NoMemory, Op, Term, TermPairs, Var};
 use std::alloc::Global;
 use std::cmp::Ordering;
 
@@ -260,8 +261,8 @@ fn cross<'a>(
         (seen state.entry) ∷ seen_all waiting.old.items) }
     ensures sound { OnOk result (AreSound waiting.old.items → AreSound waiting.new.items) }
 {
-    let (a, b) = in_order(alloc, state.bound.as_slice(), &ts[0], &ts[1])?;
-    let (c, d) = in_order(alloc, state.bound.as_slice(), &us[0], &us[1])?;
+    let (a, b) = in_order(state.bound.as_slice(), &ts[0], &ts[1]);
+    let (c, d) = in_order(state.bound.as_slice(), &us[0], &us[1]);
     let mut goals = Vec::from_slice(alloc, state.goals.as_slice())?;
     goals.push((b, c))?;
     goals.push((a, d))?;
@@ -277,22 +278,15 @@ fn cross<'a>(
 }
 
 // Two terms in the order of the canonical forms of what they stand for.
-fn in_order<'a>(
-    alloc: Global,
-    bound: &[Binding<'a>],
-    t: &'a Term,
-    u: &'a Term,
-) -> Result<(&'a Term, &'a Term), NoMemory>
+fn in_order<'a>(bound: &[Binding<'a>], t: &'a Term, u: &'a Term) -> (&'a Term, &'a Term)
     requires sound { IsSound (raw bound.now) }
-    ensures { let h = full (raw bound.now) in IfOk result (λ p.
-        h p.0.now ∷ h p.1.now ∷ [] ≡ arranged (h t.now ∷ h u.now ∷ [])) }
+    ensures { let h = full (raw bound.now) in
+        h result.0.now ∷ h result.1.now ∷ [] ≡ arranged (h t.now ∷ h u.now ∷ []) }
 {
-    let first = made(alloc, bound, head_of(t))?;
-    let second = made(alloc, bound, head_of(u))?;
-    if cmp(&first, &second) == Ordering::Greater {
-        return Ok((u, t));
+    if order(bound, t, u) == Ordering::Greater {
+        return (u, t);
     }
-    Ok((t, u))
+    (t, u)
 }
 
 // Puts the pairs of arguments to the front.

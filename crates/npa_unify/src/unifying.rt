@@ -7,6 +7,7 @@ ghost use Rattle.npa_unify.specs.Branches.{Branch, ends, pair_variables};
 ghost use Rattle.npa_unify.specs.Seen.{AreSound, IsReached, finished_all, seen_all};
 ghost use Rattle.npa_unify.specs.Unifiers.{AreLow, HaveOneSort, IsAnswer, IsComplete, IsUnifier};
 
+use crate::clashes::some_clash;
 use crate::error::UnifyFail;
 use crate::search::{Waiting, next_end, start};
 use crate::sizes::first_large;
@@ -48,6 +49,9 @@ pub fn unify(
 {
     sorts.laws();
     sorts.pairs();
+    if some_clash(pairs.as_slice()) {
+        return Ok(List::new(alloc));
+    }
     let mut waiting = open(alloc, pairs, next)?;
     collect(alloc, sorts, &mut waiting)
 }
@@ -70,6 +74,9 @@ pub fn unifiable(
 {
     sorts.laws();
     sorts.pairs();
+    if some_clash(pairs.as_slice()) {
+        return Ok(false);
+    }
     let mut waiting = open(alloc, pairs, next)?;
     match next_end(alloc, sorts, &mut waiting)? {
         Some(_) => Ok(true),

@@ -97,7 +97,7 @@ fn term(alloc: Global, text: &str) -> Result<Term, Fail> {
 }
 
 // The pairs of texts with a blank behind each but the last.
-fn pairs_of(alloc: Global, texts: &str) -> Result<TermPairs, Fail> {
+pub(crate) fn pairs_of(alloc: Global, texts: &str) -> Result<TermPairs, Fail> {
     let mut pairs = List::new(alloc);
     let mut rest = texts;
     for _ in 0..texts.len() {

@@ -1,6 +1,6 @@
 ghost use Rattle.std.specs.Prelude.{◌<◌};
 
-use crate::algebra::Algebra;
+use crate::algebra::{Algebra, pairs_of};
 use npa_list::List;
 use npa_sorts::MSG;
 use npa_term::{Op, Term, TermPair, Var};
@@ -55,7 +55,12 @@ a a{13: +aa +aa} => too many
 B pAA C pBB D pCC E pDD G pEE H pGG I pHH O pII P pOO Q pPP R pQQ S pRR => too large 2047
 S pRR R pQQ Q pPP P pOO O pII I pHH H pGG G pEE E pDD D pCC C pBB B pAA => too large 8191
 X a{13: +aa +aa} => too many
-S pRR R pQQ Q pPP P pOO O pII I pHH H pGG G pEE E pDD D pCC C pBB B pAA{13: +aa +aa} => too large 8191";
+S pRR R pQQ Q pPP P pOO O pII I pHH H pGG G pEE E pDD D pCC C pBB B pAA{13: +aa +aa} => too large 8191
+{1999:g}X {1999:g}a => X=a;|
+{1999:g}a {1999:g}b => 
+p{20:+a}XY p{20:+a}aZ => X=a;Z=Y;|
+pX{30:g}a pY{30:g}b => 
++pXYZ +apXY => Z=a;|";
 
 #[test]
 fn unifiers(rt: HostRuntime) -> Result<(), Fail> {
@@ -93,6 +98,32 @@ fn answer(alloc: Global, rising: bool) -> Result<Vec<u8>, Fail> {
     let mut out = Vec::new(alloc);
     Algebra::new(alloc)?.put_answer(alloc, &pairs, 65, &mut out)?;
     Ok(out)
+}
+
+// The last of 4,097 branches is too large, and the last of 4,098 is.
+const LAST_ROWS: &str = "+XY +a{32:g}a B pXX C pBB D pCC E pDD G pEE{12: +aX +Xa} => too large 1087
++XY +a{32:g}a +XY +VW B pXV C pBB D pCC E pDD G pEE{11: +aX +Xa} => too many";
+
+#[test]
+fn last_branches(rt: HostRuntime) -> Result<(), Fail> {
+    let algebra = Algebra::new(rt.alloc())?;
+    assert_eq!(rt; first_wrong(rt.alloc(), &algebra, LAST_ROWS)?, None);
+    Ok(())
+}
+
+// New variables may be numbered up to 2^32 - 1, and no further.
+#[test]
+fn numbers_of_new_variables(rt: HostRuntime) -> Result<(), Fail> {
+    let algebra = Algebra::new(rt.alloc())?;
+    let pairs = pairs_of(rt.alloc(), "N M")?;
+    let mut last = Vec::new(rt.alloc());
+    algebra.put_answer(rt.alloc(), &pairs, 2147483648, &mut last)?;
+    let new = "N=?2147483648:4;M=?2147483648:4;|N=?2147483648:5;M=?2147483648:5;|";
+    assert_eq!(rt; last.as_slice(), new.as_bytes());
+    let mut past = Vec::new(rt.alloc());
+    algebra.put_answer(rt.alloc(), &pairs, 2147483649, &mut past)?;
+    assert_eq!(rt; past.as_slice(), b"unfit".as_slice());
+    Ok(())
 }
 
 // Values of more symbols than a number can tell are searched and refused without being made.

@@ -1,8 +1,8 @@
 use Rattle.std.proofs.Common.{◌≡◌, ◌∷◌, refl, subst}
 use Rattle.std.specs.Prelude.{IfSome, flat_map}
 use Rattle.npa_unify.specs.Branches.{ends}
-use Rattle.npa_unify.specs.Seen.{seen, seen_all}
-use Rattle.npa_unify.proofs.Deciding.{no_unifier, some_unifier, start_reached}
+use Rattle.npa_unify.specs.Seen.{NoneEquates, seen, seen_all}
+use Rattle.npa_unify.proofs.Deciding.{no_unifier, none_equates, some_unifier, start_reached}
 use Rattle.npa_unify.proofs.unifying.unifiable.Goals as goal
 
 pub next_end-requires-clause-reached : goal.next_end-requires-clause-reached
@@ -26,3 +26,8 @@ returns c =
       λ s. absurd (no_unifier o c.args.pairs.now c.args.next (seen_all c.in_ok-waiting.waiting.items) c.pairs.ensures.sorts c.laws.ensures.acyclic c.requires.low c.in_ok-waiting.ensures.all
           (c.in_ok-next_end.ensures.none c.in-None.is) s.0 s.1),
     )
+
+pub returns-then-some_clash : goal.returns-then-some_clash
+returns-then-some_clash c =
+    let none : NoneEquates c.args.pairs.now = subst NoneEquates c.as_slice.ensures (c.some_clash.ensures c.if-some_clash.true) in
+    (λ e. cc, λ s. absurd (none_equates c.args.sorts.now c.args.pairs.now none s.0 s.1))
