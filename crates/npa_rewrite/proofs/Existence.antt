@@ -1,4 +1,4 @@
--- Where all equations cancel, each term has a normal form.
+-- Where equations make terms lighter, each term has a normal form.
 use Rattle.std.proofs.Common.{◌≡◌, ℕ, zero, suc, ◌<◌, List, [], ◌∷◌, ◌++◌, append_assoc, Option, Some, None, refl, sym, subst, inl, inr, arith}
 use Rattle.std.specs.Prelude.{Contains}
 use Rattle.std.specs.List.{All}
@@ -18,9 +18,10 @@ use Rattle.npa_match.proofs.Answered.{first_answered, none_answered}
 use Rattle.npa_sig.specs.declared.protocol.Equation.{Equation}
 use Rattle.npa_rewrite.specs.declared.theory.Theory.{Theory}
 use Rattle.npa_rewrite.specs.Innermost.{at_root, innermost, matcher}
+use Rattle.npa_rewrite.specs.Lightening.{Lightens}
 use Rattle.npa_rewrite.specs.Rewriting.{Rewrites, IsNormal, IsNormalFormOf, AllCancel, Steps, none, more}
 use Rattle.npa_rewrite.specs.Stepping.{AreUnmatched, IsRootStep, IsOutcome, IsRootOutcome, outcome_of}
-use Rattle.npa_rewrite.proofs.Kept.{smaller}
+use Rattle.npa_rewrite.proofs.Lightening.{cancel_lightens, rewrites_lighter}
 use Rattle.npa_rewrite.proofs.Root.{matches_from}
 use Rattle.npa_rewrite.proofs.Under.{canonical_in, rewrites_in, normal_app}
 use Rattle.npa_rewrite.proofs.Walk.{innermost_all, innermost_at, outcome_name, outcome_var, step_canonical}
@@ -88,28 +89,34 @@ innermost_told th =
     (λ op ts each. subst (λ o. IsOutcome th (App op ts) (outcome_of (App op ts) o)) (sym (innermost_at root (App op ts) op ts refl))
     (app_told th op ts (innermost_all root ts) (root (App op ts)) (all_told th op [] ts each) (root_told th (App op ts))))
 
--- from a term on, as long as it has fewer symbols than a number
-abbrev HasNormal : Theory → Term → Type 0
+-- a normal term that a term rewrites to
+abbrev pub HasNormal : Theory → Term → Type 0
 HasNormal th t = (u : Term) × Steps th t u × IsNormal th u
 
 steps_from : (th : Theory) {t u v : Term} → Rewrites th t u → Steps th u v → Steps th t v
 steps_from th r none = more _ _ none r
 steps_from th r (more u v p q) = more u v (steps_from th r p) q
 
-normal_next : (th : Theory) → AllCancel th → (n : ℕ) (t : Term) → symbol_count t < suc n → (o : Option Term) → IsOutcome th t (outcome_of t o) → ((u : Term) → symbol_count u < n → HasNormal th u) → HasNormal th t
-normal_next th cancel n t small None normal rest = (t, none, normal)
-normal_next th cancel n t small (Some u) step rest =
-    let less = smaller th t (canonical u) cancel step in
-    let form = rest (canonical u) (omega (arith, less, small)) in
-    (form.0, steps_from th step form.1, form.2)
+module _ (th : Theory) (weigh : Term → ℕ) (light : Lightens th weigh) where
+  normal_next : (n : ℕ) (t : Term) → weigh t < suc n → (o : Option Term) → IsOutcome th t (outcome_of t o) → ((u : Term) → weigh u < n → HasNormal th u) → HasNormal th t
+  normal_next n t small None normal rest = (t, none, normal)
+  normal_next n t small (Some u) step rest =
+      let less : weigh (canonical u) < weigh t = rewrites_lighter th weigh light t (canonical u) step in
+      let form = rest (canonical u) (omega (arith, less, small)) in
+      (form.0, steps_from th step form.1, form.2)
 
-normal_within : (th : Theory) → AllCancel th → (n : ℕ) (t : Term) → symbol_count t < n → HasNormal th t
-normal_within th cancel zero t small = absurd (let never : ⊥ = omega (arith, small) in never)
-normal_within th cancel (suc n) t small =
-    normal_next th cancel n t small (innermost (at_root th.sig.sorts th.equations) t) (innermost_told th t) (normal_within th cancel n)
+  normal_within : (n : ℕ) (t : Term) → weigh t < n → HasNormal th t
+  normal_within zero t small = absurd (let never : ⊥ = omega (arith, small) in never)
+  normal_within (suc n) t small =
+      normal_next n t small (innermost (at_root th.sig.sorts th.equations) t) (innermost_told th t) (normal_within n)
+
+  -- where equations make terms lighter, each term rewrites to a normal one
+  pub has_normal : (t : Term) → HasNormal th t
+  has_normal t = normal_within (suc (weigh t)) t (omega arith)
+
+  pub lighter_form_exists : (t : Term) → (u : Term) × IsNormalFormOf th t u
+  lighter_form_exists t = let form = has_normal (canonical t) in (form.0, record { reached = form.1; normal = form.2 })
 
 -- where all equations cancel, each term has a normal form
 pub normal_form_exists : (th : Theory) (t : Term) → AllCancel th → (u : Term) × IsNormalFormOf th t u
-normal_form_exists th t cancel =
-    let form = normal_within th cancel (suc (symbol_count (canonical t))) (canonical t) (omega arith) in
-    (form.0, record { reached = form.1; normal = form.2 })
+normal_form_exists th t cancel = lighter_form_exists th symbol_count (cancel_lightens th cancel) t

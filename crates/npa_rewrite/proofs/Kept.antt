@@ -37,11 +37,11 @@ right_is o e s shape = ap (applied s) shape.right
 
 -- sizes
 
-count_in : (before after : List Term) (t u : Term) → symbol_count u < symbol_count t → all_count (before ++ u ∷ after) < all_count (before ++ t ∷ after)
+pub count_in : (before after : List Term) (t u : Term) → symbol_count u < symbol_count t → all_count (before ++ u ∷ after) < all_count (before ++ t ∷ after)
 count_in [] after t u small = omega (arith, small)
 count_in (b ∷ before) after t u small = let rest = count_in before after t u small in omega (arith, rest)
 
-replaced_smaller : (th : Theory) → AllCancel th → {t u : Term} → Replaces th t u → symbol_count u < symbol_count t
+pub replaced_smaller : (th : Theory) → AllCancel th → {t u : Term} → Replaces th t u → symbol_count u < symbol_count t
 replaced_smaller th cancel (here e s c q) =
     let shape = shape_of th cancel e c in
     let app = is_app e.left shape.left shape.var shape.occurs in
@@ -129,6 +129,10 @@ keeps_sort th t u cancel r =
 
 pub step_canonical_form : (th : Theory) (t u : Term) → Rewrites th t u → canonical u ≡ u
 step_canonical_form th t u r = ap canonical r.form ∙ canonical-canonical r.to ∙ sym r.form
+
+pub steps_canonical : (th : Theory) (t : Term) {u : Term} → Steps th (canonical t) u → canonical u ≡ u
+steps_canonical th t none = canonical-canonical t
+steps_canonical th t (more u v p r) = step_canonical_form th u v r
 
 -- normal forms
 

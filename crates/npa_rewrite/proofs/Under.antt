@@ -26,7 +26,7 @@ pub replaced : (th : Theory) (t u : Term) → Replaces th t u → Rewrites th t 
 replaced th t u r = record { from = t; to = u; same = itself t; replaces = r; form = refl }
 
 -- one argument in the place of another
-same_in : (before after : List Term) (t u : Term) → Same t u → SameAll (before ++ t ∷ after) (before ++ u ∷ after)
+pub same_in : (before after : List Term) (t u : Term) → Same t u → SameAll (before ++ t ∷ after) (before ++ u ∷ after)
 same_in [] after t u p = first t u after after p (same_all_itself after)
 same_in (b ∷ before) after t u p = first b b (before ++ t ∷ after) (before ++ u ∷ after) (itself b) (same_in before after t u p)
 

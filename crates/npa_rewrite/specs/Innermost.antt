@@ -1,6 +1,6 @@
 -- The one step that is made of those that a term allows, and the normal form that is made of it: the
 -- leftmost innermost strategy (Baader, Nipkow 1998, on strategies).
-use Rattle.std.specs.Prelude.{◌≡◌, List, [], ◌∷◌, Option, Some, None, unwrap_or}
+use Rattle.std.specs.Prelude.{◌≡◌, List, [], ◌∷◌, Option, Some, None, unwrap_or, map}
 use Rattle.std.specs.Option.{option_map, option_or}
 use Rattle.npa_sorts.specs.Subsorts.{Subsorts}
 use Rattle.npa_term.specs.declared.term.Var.{Var as Variable}
@@ -63,3 +63,7 @@ abbrev mutual
   pub normalized_row : {n : _} → Theory → Row_of-Term n → List Term
   normalized_row th end_of-Term = []
   normalized_row th (more_of-Term t rest) = normalized th t ∷ normalized_row th rest
+
+-- A substitution with the normal forms of its values.
+abbrev pub normal_values : Theory → List (Variable × Term) → List (Variable × Term)
+normal_values th s = map (λ b. (b.0, normalized th b.1)) s

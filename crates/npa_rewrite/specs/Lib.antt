@@ -1,5 +1,7 @@
 pub mod Innermost
 pub mod Rewriting
+pub mod Reducing
+pub mod Lightening
 pub mod Stepping
 pub mod Normal
 pub mod Accepted

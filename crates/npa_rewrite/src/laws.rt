@@ -1,7 +1,7 @@
 //! Laws of rewriting. Each function does nothing: its clauses are the laws, for the proofs of the
 //! crates above.
 
-ghost use Rattle.std.specs.Prelude.{◌≡◌, ◌↔◌, ◌<◌, ℕ, IsTrue, Contains, None, List, [], ◌∷◌, ◌++◌};
+ghost use Rattle.std.specs.Prelude.{◌≡◌, ◌↔◌, ◌<◌, ℕ, IsTrue, Contains, None, List, [], ◌∷◌, ◌++◌, map};
 ghost use Rattle.npa_sorts.specs.Subsorts.{IsAtOrBelow};
 ghost use Rattle.npa_term.specs.declared.term.Op.{Op};
 ghost use Rattle.npa_term.specs.declared.term.Term.{Term, App};
@@ -15,9 +15,10 @@ ghost use Rattle.npa_term.specs.Symbols.{symbol_count};
 ghost use Rattle.npa_term.specs.Variables.{IsGround, variables};
 ghost use Rattle.npa_sig.specs.Signature.{Signature, first_op_fault};
 ghost use Rattle.npa_sig.specs.Sorting.{well_sorted};
+ghost use Rattle.npa_sig.specs.Values.{under};
 ghost use Rattle.npa_rewrite.specs.declared.theory.Theory.{Theory};
-ghost use Rattle.npa_rewrite.specs.Innermost.{Reductions, normalized};
-ghost use Rattle.npa_rewrite.specs.Rewriting.{AllCancel, GivesNormalForms, IsConvergent, IsLeastNormalForm, IsNormal, IsNormalFormOf, Rewrites, Steps};
+ghost use Rattle.npa_rewrite.specs.Innermost.{Reductions, normal_values, normalized};
+ghost use Rattle.npa_rewrite.specs.Rewriting.{AllCancel, FitsSorts, GivesNormalForms, IsConvergent, IsLeastNormalForm, IsNormal, IsNormalFormOf, Rewrites, Steps};
 ghost use Rattle.npa_sig.specs.Operators.{PairsCommute};
 
 /// Terms that are equal modulo commutativity make the same steps, a step of an argument is one of
@@ -92,4 +93,29 @@ pub fn normalizing_laws()
         → GivesNormalForms th (normalized th) }
     ensures only { (th : Theory) (nf : Term → Term) (t : Term) → AllCancel th → IsConvergent th
         → GivesNormalForms th nf → IsTrue (well_sorted th.sig t) → nf t ≡ normalized th t }
+{}
+
+/// A term is normal where an instance of it is, by a substitution that fits the sorts of its
+/// variables. Where all equations cancel, the normal forms of arguments, of the values of a
+/// substitution and of those of parameters may be taken first. In a convergent theory so may that
+/// of a term before a well-sorted instance is made, and terms that are equal modulo commutativity
+/// have one normal form. It is of a sort at or below the term's.
+pub fn instance_laws()
+    ensures normal { (th : Theory) (s : List (Variable × Term)) (t : Term)
+        → FitsSorts th.sig.sorts (variables t) s → IsNormal th (applied s t) → IsNormal th t }
+    ensures form { (th : Theory) (s : List (Variable × Term)) (t : Term) → AllCancel th
+        → PairsCommute th.sig → IsConvergent th → FitsSorts th.sig.sorts (variables t) s
+        → IsTrue (well_sorted th.sig (applied s t))
+        → normalized th (applied s (normalized th t)) ≡ normalized th (applied s t) }
+    ensures arguments { (th : Theory) (op : Op) (ts : List Term) → AllCancel th
+        → normalized th (App op (map (normalized th) ts)) ≡ normalized th (App op ts) }
+    ensures values { (th : Theory) (s : List (Variable × Term)) (t : Term) → AllCancel th
+        → normalized th (applied (normal_values th s) t) ≡ normalized th (applied s t) }
+    ensures parameters { (th : Theory) (values : List Term) (t : Term) → AllCancel th
+        → normalized th (under (map (normalized th) values) t) ≡ normalized th (under values t) }
+    ensures classes { (th : Theory) (t u : Term) → AllCancel th → PairsCommute th.sig
+        → IsConvergent th → Same t u → IsTrue (well_sorted th.sig t)
+        → normalized th t ≡ normalized th u }
+    ensures below { (th : Theory) (t : Term) → AllCancel th
+        → IsAtOrBelow th.sig.sorts (least_sort (normalized th t)) (least_sort t) }
 {}
