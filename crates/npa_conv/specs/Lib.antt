@@ -1,0 +1,5 @@
+pub mod Critical
+pub mod Overlaps
+pub mod Places
+pub mod Theories
+pub mod Verdict
