@@ -1,0 +1,7 @@
+pub mod Firsts
+pub mod Heads
+pub mod Own
+pub mod Parts
+pub mod Renaming
+pub mod Sorting
+pub mod Unifying
