@@ -20,7 +20,7 @@ use Rattle.npa_model.specs.WellFormed.{IsWellFormedAim}
 use Rattle.npa_sig.specs.WellFormed.{AreSorts, IsWellFormedProtocol}
 use Rattle.npa_rewrite.specs.declared.theory.Theory.{Theory}
 use Rattle.npa_rewrite.specs.Innermost.{normalized}
-use Rattle.npa_rewrite.specs.Rewriting.{AllCancel}
+use Rattle.npa_rewrite.specs.Rewriting.{AllCancel, IsConvergent}
 use Rattle.npa_sig.specs.Operators.{PairsCommute}
 use Rattle.npa_rewrite.proofs.Normalized.{same_form}
 use Rattle.npa_model.specs.Accepted.{IsAccepted}
@@ -174,31 +174,31 @@ module _ (th : Theory) (cancel : AllCancel th) (protocol : Protocol) (is : th.si
   pub steady_ : Stable th protocol.sig
   steady_ = subst (Stable th) is (stable th cancel (subst PairsCommute (sym is) formed.signature.pairs))
 
-  module _ (aim : Aim) (good : IsWellFormedAim protocol.sig protocol.strands aim) (run : Run) (ground : AreGroundTerms protocol.sig run.instances) where
+  module _ (convergent : IsConvergent th) (aim : Aim) (good : IsWellFormedAim protocol.sig protocol.strands aim) (run : Run) (ground : AreGroundTerms protocol.sig run.instances) where
     true_of : (nf : Term → Term) → ((t : Term) → IsGroundTerm protocol.sig t → normalized th t ≡ nf t) → (answer : Replay) → IsTrueOf (normalized th) protocol aim run answer → IsTrueOf nf protocol aim run answer
     true_of nf same replay.Reaches x = same_reaches protocol formed (normalized th) nf same run aim good x
     true_of nf same (replay.Stops j why) x = same_breaks protocol formed (normalized th) nf same run ground j why x
     true_of nf same (replay.Misses k) x = same_misses protocol formed (normalized th) nf same run aim good k x
 
     -- the answer is true of the run
-    pub answers : (answer : Replay) → (IsAccepted th aim → IsTrueOf (normalized th) protocol aim run answer) → OfNormalForms th aim (λ nf. IsTrueOf nf protocol aim run answer)
-    answers answer x = λ convergent accepted nf gives.
-        true_of nf (λ t g. sym (same_form th nf t cancel convergent gives (subst (λ (s : Signature). well_sorted s t ≡ true) (sym is) g.sorted))) answer (x accepted)
+    pub answers : (answer : Replay) → IsTrueOf (normalized th) protocol aim run answer → OfNormalForms th (λ nf. IsTrueOf nf protocol aim run answer)
+    answers answer x = λ nf gives.
+        true_of nf (λ t g. sym (same_form th nf t cancel convergent gives (subst (λ (s : Signature). well_sorted s t ≡ true) (sym is) g.sorted))) answer x
 
     -- and no other is
-    pub only_answer : (answer : Replay) → OfNormalForms th aim (λ nf. IsTrueOf nf protocol aim run answer) → OfNormalForms th aim (λ nf. (other : Replay) → IsTrueOf nf protocol aim run other → other ≡ answer)
-    only_answer answer x = λ convergent accepted nf gives other true. one_answer nf protocol aim run other answer true (x convergent accepted nf gives)
+    pub only_answer : (answer : Replay) → OfNormalForms th (λ nf. IsTrueOf nf protocol aim run answer) → OfNormalForms th (λ nf. (other : Replay) → IsTrueOf nf protocol aim run other → other ≡ answer)
+    only_answer answer x = λ nf gives other true. one_answer nf protocol aim run other answer true (x nf gives)
 
     module _ (h : Halt) (breaks : RunsThrough (normalized th) protocol run (Err h)) where
-      pub stops : (result : Result Replay NoMemory) → Stops h result → IfOk result (λ answer. OfNormalForms th aim (λ nf. IsTrueOf nf protocol aim run answer))
+      pub stops : (result : Result Replay NoMemory) → Stops h result → IfOk result (λ answer. OfNormalForms th (λ nf. IsTrueOf nf protocol aim run answer))
       stops result s = by h breaks s
         where
-          by : (h : Halt) → RunsThrough (normalized th) protocol run (Err h) → Stops h result → IfOk result (λ answer. OfNormalForms th aim (λ nf. IsTrueOf nf protocol aim run answer))
+          by : (h : Halt) → RunsThrough (normalized th) protocol run (Err h) → Stops h result → IfOk result (λ answer. OfNormalForms th (λ nf. IsTrueOf nf protocol aim run answer))
           by (halt.Break j why) b s =
-              subst (λ (r : Result Replay NoMemory). IfOk r (λ answer. OfNormalForms th aim (λ nf. IsTrueOf nf protocol aim run answer))) (sym s) (answers (replay.Stops j why) (λ accepted. b))
-          by halt.NoMemory b s = subst (λ (r : Result Replay NoMemory). IfOk r (λ answer. OfNormalForms th aim (λ nf. IsTrueOf nf protocol aim run answer))) (sym s.1) tt
+              subst (λ (r : Result Replay NoMemory). IfOk r (λ answer. OfNormalForms th (λ nf. IsTrueOf nf protocol aim run answer))) (sym s) (answers (replay.Stops j why) b)
+          by halt.NoMemory b s = subst (λ (r : Result Replay NoMemory). IfOk r (λ answer. OfNormalForms th (λ nf. IsTrueOf nf protocol aim run answer))) (sym s.1) tt
 
-    pub only_true : (result : Result Replay NoMemory) → IfOk result (λ answer. OfNormalForms th aim (λ nf. IsTrueOf nf protocol aim run answer)) →
-        IfOk result (λ answer. OfNormalForms th aim (λ nf. (other : Replay) → IsTrueOf nf protocol aim run other → other ≡ answer))
+    pub only_true : (result : Result Replay NoMemory) → IfOk result (λ answer. OfNormalForms th (λ nf. IsTrueOf nf protocol aim run answer)) →
+        IfOk result (λ answer. OfNormalForms th (λ nf. (other : Replay) → IsTrueOf nf protocol aim run other → other ≡ answer))
     only_true (Ok answer) x = only_answer answer x
     only_true (Err e) x = tt

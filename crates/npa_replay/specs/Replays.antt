@@ -6,8 +6,7 @@ use Rattle.npa_sig.specs.declared.protocol.Protocol.{Protocol}
 use Rattle.npa_model.specs.declared.aim.Aim.{Aim}
 use Rattle.npa_model.specs.declared.run.Run.{Run}
 use Rattle.npa_rewrite.specs.declared.theory.Theory.{Theory}
-use Rattle.npa_rewrite.specs.Rewriting.{GivesNormalForms, IsConvergent}
-use Rattle.npa_model.specs.Accepted.{IsAccepted}
+use Rattle.npa_rewrite.specs.Rewriting.{GivesNormalForms}
 use Rattle.npa_model.specs.Aims.{Reaches, Breaks, Misses}
 use Rattle.npa_replay.specs.declared.execution.Halt.{Halt}
 use Rattle.npa_replay.specs.declared.execution.Halt.TheVariants as halt
@@ -21,9 +20,9 @@ IsTrueOf nf protocol aim run replay.Reaches = Reaches nf protocol aim run
 IsTrueOf nf protocol aim run (replay.Stops j why) = Breaks nf protocol run j why
 IsTrueOf nf protocol aim run (replay.Misses k) = Misses nf protocol aim run k
 
--- This holds of the normal forms of a theory that is convergent, where the aim is accepted.
-abbrev pub OfNormalForms : Theory → Aim → ((Term → Term) → Type 0) → Type 0
-OfNormalForms th aim P = IsConvergent th → IsAccepted th aim → (nf : Term → Term) → GivesNormalForms th nf → P nf
+-- this holds of whatever function has the normal forms of a theory
+abbrev pub OfNormalForms : Theory → ((Term → Term) → Type 0) → Type 0
+OfNormalForms th P = (nf : Term → Term) → GivesNormalForms th nf → P nf
 
 -- the answer about a run that breaks: the step and the cause
 abbrev pub Stops : Halt → Result Replay NoMemory → Type 0

@@ -1,5 +1,6 @@
 ghost use Rattle.std.specs.Prelude.{◌≡◌, ◌<◌, ◌^◌, [], length, IfOk};
-ghost use Rattle.npa_rewrite.specs.Rewriting.{AllCancel};
+ghost use Rattle.npa_rewrite.specs.Rewriting.{AllCancel, IsConvergent};
+ghost use Rattle.npa_model.specs.Accepted.{IsAccepted};
 ghost use Rattle.npa_model.specs.WellFormed.{IsWellFormedAim, IsWellFormedRun};
 ghost use Rattle.npa_sig.specs.WellFormed.{IsWellFormedProtocol};
 ghost use Rattle.npa_replay.specs.Choices.{IsMost};
@@ -22,9 +23,8 @@ use std::alloc::Global;
 /// different instances meet it beside the parts before it. A run that reaches the aim, breaks or
 /// misses a part does just one of these.
 ///
-/// The answer is promised where the theory is convergent, so that each term has one normal form,
-/// and the aim is accepted, so that its instances by normal terms are normal and can be found by
-/// matching.
+/// The theory is convergent, so that each term has one normal form, and the aim is accepted, so that
+/// its instances by normal terms are normal and can be found by matching.
 pub fn replay(
     alloc: Global,
     th: &Theory,
@@ -34,11 +34,13 @@ pub fn replay(
 ) -> Result<Replay, NoMemory>
     requires signature { th.now.sig ≡ protocol.now.sig }
     requires cancelling { AllCancel th.now }
+    requires convergent { IsConvergent th.now }
     requires protocol { IsWellFormedProtocol protocol.now }
     requires aim { IsWellFormedAim protocol.now.sig protocol.now.strands aim.now }
+    requires accepted { IsAccepted th.now aim.now }
     requires run { IsWellFormedRun protocol.now.sig run.now }
-    ensures answer { IfOk result (λ answer. OfNormalForms th.now aim.now (λ nf. IsTrueOf nf protocol.now aim.now run.now answer)) }
-    ensures only { IfOk result (λ answer. OfNormalForms th.now aim.now (λ nf. (other : Replay) → IsTrueOf nf protocol.now aim.now run.now other → other ≡ answer)) }
+    ensures answer { IfOk result (λ answer. OfNormalForms th.now (λ nf. IsTrueOf nf protocol.now aim.now run.now answer)) }
+    ensures only { IfOk result (λ answer. OfNormalForms th.now (λ nf. (other : Replay) → IsTrueOf nf protocol.now aim.now run.now other → other ≡ answer)) }
 {
     let state = match run_through(alloc, th, protocol, run) {
         Ok(state) => state,

@@ -5,7 +5,7 @@ use Rattle.npa_term.specs.declared.error.NoMemory.{NoMemory}
 use Rattle.npa_sig.specs.declared.protocol.Protocol.{Protocol}
 use Rattle.npa_rewrite.specs.declared.theory.Theory.{Theory}
 use Rattle.npa_rewrite.specs.Innermost.{normalized}
-use Rattle.npa_rewrite.specs.Rewriting.{AllCancel}
+use Rattle.npa_rewrite.specs.Rewriting.{AllCancel, IsConvergent}
 use Rattle.npa_rewrite.proofs.Normalized.{gives_forms}
 use Rattle.npa_model.specs.declared.aim.Aim.{Aim}
 use Rattle.npa_model.specs.declared.run.Run.{Run}
@@ -22,18 +22,18 @@ use Rattle.npa_run_text.specs.declared.fault.RunTextFail.{RunTextFail}
 use Rattle.npa_run_text.specs.RunTexts.{ReadsRun}
 use Rattle.npa_replaying.specs.Lines.{invalid, answer_text, answer_status}
 use Rattle.npa_rewrite.specs.Theories.{theory_of}
-use Rattle.npa_replaying.specs.Replaying.{IsTrueAnswer, IsOnlyAnswer, Replayed, RunAnswer, OfRun, IsSettled, IsSettledFor, IsForRun}
+use Rattle.npa_replaying.specs.Replaying.{IsTrueAnswer, IsOnlyAnswer, Replayed, RunAnswer, OfRun, IsForRun}
 
 -- ## A replay
 
 -- one answer is true of a run, so one text and one status are for it
 only_replayed : (protocol : Protocol) (aim : Aim) (run : Run) (answer : Replay) (text : List ℕ) (status : ℕ) →
-    AllCancel (theory_of protocol) → IsOnlyAnswer protocol aim run answer →
-    text ≡ answer_text protocol run answer → status ≡ answer_status answer → IsSettled protocol aim → IsOnly (Replayed protocol aim run) text status
-only_replayed protocol aim run answer text status cancel one t s settled = λ other number r.
+    AllCancel (theory_of protocol) → IsConvergent (theory_of protocol) → IsOnlyAnswer protocol aim run answer →
+    text ≡ answer_text protocol run answer → status ≡ answer_status answer → IsOnly (Replayed protocol aim run) text status
+only_replayed protocol aim run answer text status cancel convergent one t s = λ other number r.
     let th = theory_of protocol in
-    let gives = gives_forms th cancel settled.convergent in
-    let same = one settled.convergent settled.accepted (normalized th) gives r.answer (r.is_true settled.convergent settled.accepted (normalized th) gives) in
+    let gives = gives_forms th cancel convergent in
+    let same = one (normalized th) gives r.answer (r.is_true (normalized th) gives) in
     (r.text_is ∙ ap (answer_text protocol run) same ∙ sym t, r.status_is ∙ ap answer_status same ∙ sym s)
 
 pub same_theory : (th : Theory) (protocol : Protocol) → th.sig ≡ protocol.sig → th.equations ≡ protocol.equations → th ≡ theory_of protocol
@@ -41,24 +41,24 @@ same_theory th protocol a b = λ i. record { sig = a i; equations = b i }
 
 module _ (th : Theory) (protocol : Protocol) (same : th ≡ theory_of protocol) (aim : Aim) (run : Run) (answer : Replay) where
   -- the text for a true answer
-  pub is_replayed : (r : Result Printed NoMemory) → OfNormalForms th aim (λ nf. IsTrueOf nf protocol aim run answer) →
+  pub is_replayed : (r : Result Printed NoMemory) → OfNormalForms th (λ nf. IsTrueOf nf protocol aim run answer) →
       IfOk r (λ a. a.text.items ≡ answer_text protocol run answer) → IfOk r (λ a. a.status ≡ answer_status answer) → IfOk r (λ a. Replayed protocol aim run a.text.items a.status)
   is_replayed (Ok a) true_of t s = record {
     answer = answer;
-    is_true = subst (λ (x : Theory). OfNormalForms x aim (λ nf. IsTrueOf nf protocol aim run answer)) same true_of;
+    is_true = subst (λ (x : Theory). OfNormalForms x (λ nf. IsTrueOf nf protocol aim run answer)) same true_of;
     text_is = t;
     status_is = s;
   }
   is_replayed (Err e) true_of t s = tt
 
   -- and no other
-  pub is_only : (r : Result Printed NoMemory) → AllCancel (theory_of protocol) → OfNormalForms th aim (λ nf. (other : Replay) → IsTrueOf nf protocol aim run other → other ≡ answer) →
+  pub is_only : (r : Result Printed NoMemory) → AllCancel (theory_of protocol) → IsConvergent (theory_of protocol) → OfNormalForms th (λ nf. (other : Replay) → IsTrueOf nf protocol aim run other → other ≡ answer) →
       IfOk r (λ a. a.text.items ≡ answer_text protocol run answer) → IfOk r (λ a. a.status ≡ answer_status answer) →
-      IfOk r (λ a. IsSettled protocol aim → IsOnly (Replayed protocol aim run) a.text.items a.status)
-  is_only (Ok a) cancel one t s =
-      only_replayed protocol aim run answer a.text.items a.status cancel
-      (subst (λ (x : Theory). OfNormalForms x aim (λ nf. (other : Replay) → IsTrueOf nf protocol aim run other → other ≡ answer)) same one) t s
-  is_only (Err e) cancel one t s = tt
+      IfOk r (λ a. IsOnly (Replayed protocol aim run) a.text.items a.status)
+  is_only (Ok a) cancel convergent one t s =
+      only_replayed protocol aim run answer a.text.items a.status cancel convergent
+      (subst (λ (x : Theory). OfNormalForms x (λ nf. (other : Replay) → IsTrueOf nf protocol aim run other → other ≡ answer)) same one) t s
+  is_only (Err e) cancel convergent one t s = tt
 
 -- ## A run's file
 
@@ -69,7 +69,7 @@ module _ (outside : Outside) (name : List ℕ) (protocol : Protocol) (aim : Aim)
     (is : LoadsText (ReadsRun protocol) (outside.told name) found)
     (others : LoadsTextAlone (ReadsRun protocol) (outside.told name) found) (long : OnTooLong found (outside.long name)) where
   from_loaded : (l : Loaded Run RunTextFail) → found ≡ l → (text : List ℕ) (status : ℕ) → RunAnswer protocol aim l text status →
-      (IsSettledFor outside name protocol aim → IsOnly (RunAnswer protocol aim l) text status) → IsForRun outside name protocol aim text status
+      IsOnly (RunAnswer protocol aim l) text status → IsForRun outside name protocol aim text status
   from_loaded l e text status shown only = record {
     shown = record {
       found = found;
@@ -77,23 +77,21 @@ module _ (outside : Outside) (name : List ℕ) (protocol : Protocol) (aim : Aim)
       shown = subst (λ (x : Loaded Run RunTextFail). RunAnswer protocol aim x text status) (sym e) shown;
     };
     only = λ known other number of.
-        only known.1 other number
+        only other number
         (subst (λ (x : Loaded Run RunTextFail). RunAnswer protocol aim x other number)
-        (only_loaded (ReadsRun protocol) outside name found is others known.0 of.found of.loaded ∙ e) of.shown);
+        (only_loaded (ReadsRun protocol) outside name found is others known of.found of.loaded ∙ e) of.shown);
   }
 
   pub for_long_run : (text : List ℕ) (status : ℕ) → found ≡ loaded.TooLong → text ≡ limit_bytes → status ≡ 7 → IsForRun outside name protocol aim text status
-  for_long_run text status e t s = from_loaded loaded.TooLong e text status (t, s) (λ settled other number a. (a.0 ∙ sym t, a.1 ∙ sym s))
+  for_long_run text status e t s = from_loaded loaded.TooLong e text status (t, s) (λ other number a. (a.0 ∙ sym t, a.1 ∙ sym s))
 
   pub for_refused_run : (fail : RunTextFail) (text : List ℕ) (status : ℕ) → found ≡ loaded.Refused fail → invalid fail ≡ Some text → status ≡ 9 → IsForRun outside name protocol aim text status
   for_refused_run fail text status e line s =
-      from_loaded (loaded.Refused fail) e text status (line, s) (λ settled other number a. (one_some (invalid fail) text other line a.0, a.1 ∙ sym s))
+      from_loaded (loaded.Refused fail) e text status (line, s) (λ other number a. (one_some (invalid fail) text other line a.0, a.1 ∙ sym s))
 
-  pub for_replayed : (run : Run) (text : List ℕ) (status : ℕ) → found ≡ loaded.Read run → Replayed protocol aim run text status → (IsSettled protocol aim → IsOnly (Replayed protocol aim run) text status) →
+  pub for_replayed : (run : Run) (text : List ℕ) (status : ℕ) → found ≡ loaded.Read run → Replayed protocol aim run text status → IsOnly (Replayed protocol aim run) text status →
       IsForRun outside name protocol aim text status
-  for_replayed run text status e shown only =
-      from_loaded (loaded.Read run) e text status shown
-      (λ settled. only (settled run (subst (IsLoaded (ReadsRun protocol) outside name) e (is_loaded (ReadsRun protocol) outside name found is long))))
+  for_replayed run text status e shown only = from_loaded (loaded.Read run) e text status shown only
 
 -- What follows from a run's file follows from it also where what lies outside is seen from further back.
 module _ (near far : Outside) (name : List ℕ) (protocol : Protocol) (aim : Aim) (same : near.told name ≡ far.told name) (since : near.long name → far.long name) where
@@ -101,6 +99,6 @@ module _ (near far : Outside) (name : List ℕ) (protocol : Protocol) (aim : Aim
   moved_run text status one = record {
     shown = record { found = one.shown.found; loaded = moved (ReadsRun protocol) near far name same since one.shown.found one.shown.loaded; shown = one.shown.shown };
     only = λ known other number of.
-        one.only ((known.0.0, same ∙ known.0.1), λ run l. known.1 run (moved (ReadsRun protocol) near far name same since (loaded.Read run) l)) other number
+        one.only (known.0, same ∙ known.1) other number
         (record { found = of.found; loaded = moved (ReadsRun protocol) (whatever_rose far) (whatever_rose near) name (sym same) (λ u. u) of.found of.loaded; shown = of.shown });
   }

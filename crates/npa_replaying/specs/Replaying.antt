@@ -1,11 +1,9 @@
 -- What the program answers of a run's file: text and status, by what was loaded of it.
 use Rattle.std.specs.Prelude.{◌≡◌, ℕ, List, Some}
 use Rattle.npa_sig.specs.declared.protocol.Protocol.{Protocol}
-use Rattle.npa_rewrite.specs.Rewriting.{IsConvergent}
 use Rattle.npa_rewrite.specs.Theories.{theory_of}
 use Rattle.npa_model.specs.declared.aim.Aim.{Aim}
 use Rattle.npa_model.specs.declared.run.Run.{Run}
-use Rattle.npa_model.specs.Accepted.{IsAccepted}
 use Rattle.npa_replay.specs.declared.answer.Replay.{Replay}
 use Rattle.npa_replay.specs.Replays.{IsTrueOf, OfNormalForms}
 use Rattle.npa_outside.specs.declared.loading.Loaded.{Loaded}
@@ -19,11 +17,11 @@ use Rattle.npa_replaying.specs.Lines.{invalid, answer_text, answer_status}
 
 -- The answer of a replay is true of the run modulo the protocol's equations.
 abbrev pub IsTrueAnswer : Protocol → Aim → Run → Replay → Type 0
-IsTrueAnswer protocol aim run answer = OfNormalForms (theory_of protocol) aim (λ nf. IsTrueOf nf protocol aim run answer)
+IsTrueAnswer protocol aim run answer = OfNormalForms (theory_of protocol) (λ nf. IsTrueOf nf protocol aim run answer)
 
 -- and every other that is so is the same
 abbrev pub IsOnlyAnswer : Protocol → Aim → Run → Replay → Type 0
-IsOnlyAnswer protocol aim run answer = OfNormalForms (theory_of protocol) aim (λ nf. (other : Replay) → IsTrueOf nf protocol aim run other → other ≡ answer)
+IsOnlyAnswer protocol aim run answer = OfNormalForms (theory_of protocol) (λ nf. (other : Replay) → IsTrueOf nf protocol aim run other → other ≡ answer)
 
 -- The text and the status for an answer that is true of the run.
 pub record Replayed (protocol : Protocol) (aim : Aim) (run : Run) (text : List ℕ) (status : ℕ) : Type 0 where
@@ -44,19 +42,7 @@ pub record OfRun (outside : Outside) (name : List ℕ) (protocol : Protocol) (ai
   pub loaded : IsLoaded (ReadsRun protocol) outside name found
   pub shown : RunAnswer protocol aim found text status
 
--- ## No other text and status
-
--- What the program doesn't check: the theory is convergent, and the aim is accepted.
-pub record IsSettled (protocol : Protocol) (aim : Aim) : Type 0 where
-  pub convergent : IsConvergent (theory_of protocol)
-  pub accepted : IsAccepted (theory_of protocol) aim
-
--- this is so where the file holds a run
-abbrev pub IsSettledFor : Outside → List ℕ → Protocol → Aim → Type 0
-IsSettledFor outside name protocol aim = (run : Run) → IsLoaded (ReadsRun protocol) outside name (loaded.Read run) → IsSettled protocol aim
-
--- The text and the status follow from the run's file; where that is known, and it is settled what a
--- replay needs, no others do.
+-- The text and the status follow from the run's file, and where that is known no others do.
 abbrev pub IsForRun : Outside → List ℕ → Protocol → Aim → List ℕ → ℕ → Type 0
 IsForRun outside name protocol aim text status =
-    IsTheOne (IsTold outside name × IsSettledFor outside name protocol aim) (OfRun outside name protocol aim) (OfRun (whatever_rose outside) name protocol aim) text status
+    IsTheOne (IsTold outside name) (OfRun outside name protocol aim) (OfRun (whatever_rose outside) name protocol aim) text status

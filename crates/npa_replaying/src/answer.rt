@@ -1,14 +1,15 @@
 ghost use Rattle.std.specs.Prelude.{◌≡◌, ◌≤◌, ℕ, List, length, IfOk, IfSome};
 ghost use Rattle.std.specs.Result.{IsErrOf};
 ghost use Rattle.npa_text.specs.Counts.{Rose};
-ghost use Rattle.npa_rewrite.specs.Rewriting.{AllCancel};
+ghost use Rattle.npa_rewrite.specs.Rewriting.{AllCancel, IsConvergent};
 ghost use Rattle.npa_rewrite.specs.Theories.{theory_of};
 ghost use Rattle.npa_sig.specs.WellFormed.{IsWellFormedProtocol};
+ghost use Rattle.npa_model.specs.Accepted.{IsAccepted};
 ghost use Rattle.npa_model.specs.WellFormed.{IsWellFormedAim, IsWellFormedRun};
 ghost use Rattle.npa_run_text.specs.RunTexts.{ReadsRun};
 ghost use Rattle.npa_outside.specs.Loads.{LoadsText, LoadsTextAlone, IfRead, OnTooLong};
 ghost use Rattle.npa_outside.specs.Outside.{counted, IsOnly};
-ghost use Rattle.npa_replaying.specs.Replaying.{IsForRun, IsSettled, Replayed};
+ghost use Rattle.npa_replaying.specs.Replaying.{IsForRun, Replayed};
 
 use crate::lines::{answered, invalid};
 use npa_model::{Aim, Run};
@@ -22,8 +23,7 @@ use npa_text::Files;
 use std::alloc::Global;
 
 /// The text and the status that follow from the file of a run: its length, its text, and then what
-/// comes of its replay against an aim of the protocol. What is said of the replay is promised where the
-/// protocol's theory is convergent and the aim is accepted, which isn't checked.
+/// comes of its replay against an aim of the protocol.
 pub fn run_answer<F: Files>(
     alloc: Global,
     files: &mut F,
@@ -33,8 +33,10 @@ pub fn run_answer<F: Files>(
 ) -> Result<Printed, Halt>
     requires protocol { IsWellFormedProtocol protocol.now }
     requires few { length protocol.now.strands ≤ 65535 }
-    requires aim { IsWellFormedAim protocol.now.sig protocol.now.strands aim.now }
     requires cancelling { AllCancel (theory_of protocol.now) }
+    requires convergent { IsConvergent (theory_of protocol.now) }
+    requires aim { IsWellFormedAim protocol.now.sig protocol.now.strands aim.now }
+    requires accepted { IsAccepted (theory_of protocol.now) aim.now }
     ensures shown { IfOk result (λ a. IsForRun
         (counted (F.holds files.old) (F.longs files.old) (F.longs files.new) (F.faults files.old) (F.faults files.new))
         name.now protocol.now aim.now a.text.items a.status) }
@@ -78,11 +80,13 @@ fn load_run<F: Files>(
 // The text for what comes of a run.
 fn replayed(alloc: Global, protocol: &Protocol, aim: &Aim, run: &Run) -> Result<Printed, NoMemory>
     requires protocol { IsWellFormedProtocol protocol.now }
-    requires aim { IsWellFormedAim protocol.now.sig protocol.now.strands aim.now }
-    requires run { IsWellFormedRun protocol.now.sig run.now }
     requires cancelling { AllCancel (theory_of protocol.now) }
+    requires convergent { IsConvergent (theory_of protocol.now) }
+    requires aim { IsWellFormedAim protocol.now.sig protocol.now.strands aim.now }
+    requires accepted { IsAccepted (theory_of protocol.now) aim.now }
+    requires run { IsWellFormedRun protocol.now.sig run.now }
     ensures replayed { IfOk result (λ a. Replayed protocol.now aim.now run.now a.text.items a.status) }
-    ensures only { IfOk result (λ a. IsSettled protocol.now aim.now → IsOnly (Replayed protocol.now aim.now run.now) a.text.items a.status) }
+    ensures only { IfOk result (λ a. IsOnly (Replayed protocol.now aim.now run.now) a.text.items a.status) }
 {
     let th = Theory::of(alloc, protocol)?;
     let answer = replay(alloc, &th, protocol, aim, run)?;
