@@ -5,3 +5,4 @@ pub mod Aims
 pub mod Accepted
 pub mod Sent
 pub mod WellFormed
+pub mod Rules

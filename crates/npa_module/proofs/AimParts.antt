@@ -21,7 +21,7 @@ use Rattle.npa_module.proofs.Formed.{EachOf}
 use Rattle.npa_module.proofs.FormedModules.{HasParts, AllHaveParts}
 
 -- one of the nodes is for this nonterminal
-abbrev Somewhere : ℕ → List Node → Type 0
+abbrev pub Somewhere : ℕ → List Node → Type 0
 Somewhere s [] = ⊥
 Somewhere s (n ∷ ns) = (symbol_of n ≡ s) ⊎ Somewhere s ns
 
@@ -35,7 +35,7 @@ tree_children : (n : Nonterminal) (t : Terminal) (kids : List Node) → children
 tree_children n t kids = ap (λ layer. layer.children) (out-roll-Node (record { symbol = n.symbol; head = t; children = kids }))
 
 -- a needed piece has a node
-needed_there : {rules : Rules} {ps : List Piece} {ts : List Terminal} {ns : List Node} → Spells rules ps ts ns →
+pub needed_there : {rules : Rules} {ps : List Piece} {ts : List Terminal} {ns : List Node} → Spells rules ps ts ns →
     (front : List Piece) (p : Piece) (back : List Piece) → ps ≡ front ++ p ∷ back → is_needed p.occurs ≡ true → Somewhere p.nonterminal.symbol ns
 needed_there nothing [] p back e needed = absurd (cc)
 needed_there nothing (f ∷ front) p back e needed = absurd (cc)
@@ -56,7 +56,7 @@ needed_there (taking q qs t body ts us kids ns begins d d') (f ∷ front) p back
     split true is rest = rest (f ∷ front) (ap (λ b. cond b (q ∷ qs) qs) is ∙ e)
     split false is rest = let tail : qs ≡ front ++ p ∷ back = cc in rest front (ap (λ b. cond b (q ∷ qs) qs) is ∙ tail)
 
-listed_some : (s next : ℕ) (ns : List Node) → Somewhere s ns → 1 ≤ length (listed s next ns)
+pub listed_some : (s next : ℕ) (ns : List Node) → Somewhere s ns → 1 ≤ length (listed s next ns)
 listed_some s next [] w = absurd w
 listed_some s next (n ∷ ns) w = split (symbol_of n == s) refl (symbol_of n == next) w (λ v. listed_some s next ns v)
   where
@@ -74,14 +74,14 @@ listed_some s next (n ∷ ns) w = split (symbol_of n == s) refl (symbol_of n == 
     split false is false (inr v) rest = rest v
 
 -- what a node of a text has: a production for its nonterminal, and its children by that
-record IsNode (rules : Rules) (n : Node) : Type 0 where
-  room : ℕ
-  body : List Piece
-  terminals : List Terminal
-  begins : rules (record { symbol = symbol_of n; room = room }) (head_of n).kind ≡ Some body
-  spells : Spells rules body terminals (children_of n)
+pub record IsNode (rules : Rules) (n : Node) : Type 0 where
+  pub room : ℕ
+  pub body : List Piece
+  pub terminals : List Terminal
+  pub begins : rules (record { symbol = symbol_of n; room = room }) (head_of n).kind ≡ Some body
+  pub spells : Spells rules body terminals (children_of n)
 
-each_node : {rules : Rules} {ps : List Piece} {ts : List Terminal} {ns : List Node} → Spells rules ps ts ns → EachOf (IsNode rules) ns
+pub each_node : {rules : Rules} {ps : List Piece} {ts : List Terminal} {ns : List Node} → Spells rules ps ts ns → EachOf (IsNode rules) ns
 each_node nothing = tt
 each_node (without p ps ts ns optional d) = each_node d
 each_node {rules = rules} (taking p ps t body ts us kids ns begins d d') = (
@@ -97,7 +97,7 @@ each_node {rules = rules} (taking p ps t body ts us kids ns begins d d') = (
   each_node d',
 )
 
-below_each : (rules : Rules) (s : ℕ) (ns : List Node) → EachOf (IsNode rules) ns → EachOf (IsNode rules) (below s ns)
+pub below_each : (rules : Rules) (s : ℕ) (ns : List Node) → EachOf (IsNode rules) ns → EachOf (IsNode rules) (below s ns)
 below_each rules s [] each = tt
 below_each rules s (n ∷ ns) each = split (symbol_of n == s) (below_each rules s ns each.1)
   where
@@ -106,11 +106,11 @@ below_each rules s (n ∷ ns) each = split (symbol_of n == s) (below_each rules 
     split false rest = rest
 
 -- a node for this nonterminal
-record IsItem (rules : Rules) (n : Node) : Type 0 where
-  node : IsNode rules n
-  symbol_is : (symbol_of n == symbol.ITEM) ≡ true
+pub record IsItem (rules : Rules) (n : Node) : Type 0 where
+  pub node : IsNode rules n
+  pub symbol_is : (symbol_of n == symbol.ITEM) ≡ true
 
-items_each : (rules : Rules) (ns : List Node) → EachOf (IsNode rules) ns → EachOf (IsItem rules) (all_with symbol.ITEM ns)
+pub items_each : (rules : Rules) (ns : List Node) → EachOf (IsNode rules) ns → EachOf (IsItem rules) (all_with symbol.ITEM ns)
 items_each rules [] each = tt
 items_each rules (n ∷ ns) each = split (symbol_of n == symbol.ITEM) refl (items_each rules ns each.1)
   where
@@ -118,12 +118,12 @@ items_each rules (n ∷ ns) each = split (symbol_of n == symbol.ITEM) refl (item
     split true is rest = (record { node = each.0; symbol_is = is }, rest)
     split false is rest = rest
 
-got_item : (P : Node → Type 0) (ns : List Node) → EachOf P ns → (k : ℕ) (n : Node) → slice_get ns k ≡ Some n → P n
+pub got_item : (P : Node → Type 0) (ns : List Node) → EachOf P ns → (k : ℕ) (n : Node) → slice_get ns k ≡ Some n → P n
 got_item P [] each k n e = absurd (cc)
 got_item P (x ∷ ns) each zero n e = let q : x ≡ n = cc in subst P q each.0
 got_item P (x ∷ ns) each (suc k) n e = got_item P ns each.1 k n e
 
-number_is : (i j : ℕ) → (i == j) ≡ true → i ≡ j
+pub number_is : (i j : ℕ) → (i == j) ≡ true → i ≡ j
 number_is i j e = grind arith
 
 -- the production of an aim

@@ -54,11 +54,11 @@ not_false : (b : Bool) → not b ≡ false → b ≡ true
 not_false true e = refl
 not_false false e = cc
 
-neither_first : (a b : Bool) → (a || b) ≡ false → a ≡ false
+pub neither_first : (a b : Bool) → (a || b) ≡ false → a ≡ false
 neither_first true b e = cc
 neither_first false b e = refl
 
-neither_second : (a b : Bool) → (a || b) ≡ false → b ≡ false
+pub neither_second : (a b : Bool) → (a || b) ≡ false → b ≡ false
 neither_second true b e = cc
 neither_second false b e = e
 
@@ -102,7 +102,7 @@ fresh_sorts sig ss n are x h =
     (Contains-append_cases ss (replicate n 1) x h)
 
 module _ (bytes : List ℕ) (tokens : List Token) where
-  fresh_count : (sig : Signature) (ns : List Node) (b c : Binders) → fresh_read bytes tokens sig b ns ≡ Ok c → length c.names ≡ length b.names + length ns
+  pub fresh_count : (sig : Signature) (ns : List Node) (b c : Binders) → fresh_read bytes tokens sig b ns ≡ Ok c → length c.names ≡ length b.names + length ns
   fresh_count sig [] b c e = let q : b ≡ c = cc in let n : length b.names ≡ length c.names = ap (λ (x : Binders). length x.names) q in omega (arith, n)
   fresh_count sig (n ∷ ns) b c e =
       let rest : length c.names ≡ length (bound b (word_at bytes tokens n) 1).names + length ns = fresh_count sig ns (bound b (word_at bytes tokens n) 1) c (ok_unless _ _ c e) in

@@ -90,7 +90,7 @@ short_with (s ∷ ss) strand few all zero y e = all zero y e
 short_with (s ∷ ss) strand few all (suc k) y e = short_with ss strand few (λ i z f. all (suc i) z f) k y e
 
 -- a strand has as many events as stand in the text
-strand_events : (bytes : List ℕ) (tokens : List Token) (d : Draft) (b : Bool) (nodes : List Node) (strand : Strand) → one_strand_read bytes tokens d b nodes ≡ Ok strand →
+pub strand_events : (bytes : List ℕ) (tokens : List Token) (d : Draft) (b : Bool) (nodes : List Node) (strand : Strand) → one_strand_read bytes tokens d b nodes ≡ Ok strand →
     length strand.events ≡ length (event_nodes nodes)
 strand_events bytes tokens d b nodes strand q =
     let name = first_token tokens symbol.STRAND_NAME nodes in

@@ -11,3 +11,8 @@ pub mod Words
 pub mod PlainItems
 pub mod PlainModules
 pub mod Answered
+pub mod NodeNames
+pub mod ItemNames
+pub mod NameTables
+pub mod RuledItems
+pub mod RuledModules

@@ -7,7 +7,6 @@ use Rattle.npa_syntax.specs.declared.node.Node.{Node}
 use Rattle.npa_syntax.specs.Nodes.{symbol_of, children_of}
 use Rattle.npa_text.specs.declared.token.Token.{Token}
 use Rattle.npa_text.specs.declared.token.Raw.{Raw, out-Raw}
-use Rattle.npa_text.specs.declared.terminals.TheConstants as terminal
 use Rattle.npa_text.specs.declared.symbols.TheConstants as symbol
 use Rattle.npa_text.specs.Raws.{token_at}
 use Rattle.npa_text.specs.Texts.{text_of, number_of as number_in}
@@ -26,7 +25,6 @@ use Rattle.npa_sig.specs.WellFormed.{IsNameless, IsPlainTerm, IsPlainEquation}
 use Rattle.npa_sig.proofs.Sorted.{own_answer}
 use Rattle.npa_sig.proofs.Unnamed.{is_plain, nameless_read}
 use Rattle.npa_model.specs.declared.aim.Part.{Part}
-use Rattle.npa_model.specs.declared.aim.Part.TheVariants as part
 use Rattle.npa_model.specs.declared.aim.Aim.{Aim}
 use Rattle.npa_model.specs.Accepted.{part_terms}
 use Rattle.npa_module.specs.declared.source.ReadError.{ReadError}
@@ -46,7 +44,7 @@ use Rattle.npa_module.proofs.Counting.{all_count, count_length, count_filter, co
 
 -- the variables that are read are as many as their nodes
 module _ (bytes : List ℕ) (tokens : List Token) (d : Draft) where
-  sorts_count : (ns : List Node) (b c : Binders) → variables_read bytes tokens d b ns ≡ Ok c → length c.sorts ≡ length b.sorts + length ns
+  pub sorts_count : (ns : List Node) (b c : Binders) → variables_read bytes tokens d b ns ≡ Ok c → length c.sorts ≡ length b.sorts + length ns
   sorts_count [] b c e = let q : b ≡ c = cc in let n : length b.sorts ≡ length c.sorts = ap (λ (x : Binders). length x.sorts) q in omega (arith, n)
   sorts_count (n ∷ ns) b c e =
       let v = ok_then (λ m. variables_read bytes tokens d m ns) (variable_read bytes tokens d b n) c e in

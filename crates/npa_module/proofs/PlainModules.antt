@@ -52,7 +52,7 @@ pub record IsPlainDraft (d : Draft) : Type 0 where
   pub strands : (k : ℕ) (strand : Strand) → slice_get d.strands.list k ≡ Some strand → (event : Event) → Contains strand.events event → IsNameless event.msg
   pub aims : (k : ℕ) (aim : Aim) → slice_get d.aims.list k ≡ Some aim → IsGoodAim aim
 
-plain_at_first : IsPlainDraft nothing
+pub plain_at_first : IsPlainDraft nothing
 plain_at_first = record {
   equations = λ k equation e. absurd (cc);
   strands = λ k strand e. absurd (cc);
@@ -180,19 +180,21 @@ number_more p n ns = split (p n)
     split false = omega arith
 
 -- the module has plain terms, and few of everything
-record IsDone (e : Draft) : Type 0 where
-  plain : IsPlainDraft e
-  few_equations : length e.equations ≤ 256
-  few_ops : length e.sig.ops ≤ 4096
-  few_strands : length e.strands.list ≤ 1024
-  few_aims : length e.aims.list ≤ 256
+pub record IsDone (e : Draft) : Type 0 where
+  pub plain : IsPlainDraft e
+  pub few_sorts : e.sig.sorts.declared ≤ 256
+  pub few_equations : length e.equations ≤ 256
+  pub few_ops : length e.sig.ops ≤ 4096
+  pub few_strands : length e.strands.list ≤ 1024
+  pub few_aims : length e.aims.list ≤ 256
 
 module _ (bytes : List ℕ) (tokens : List Token) (words : (symbol : ℕ) (ns : List Node) → is_plain (raw_below tokens symbol ns) ≡ true) where
-  items_done : (ns : List Node) (d e : Draft) → HaveRoom d ns → all_count ns ≤ 1048576 → length d.equations + number is_eq ns ≤ 256 → length d.aims.list + number is_aim ns ≤ 256 → IsPlainDraft d → items_read bytes tokens d ns ≡ Ok e → IsDone e
+  pub items_done : (ns : List Node) (d e : Draft) → HaveRoom d ns → all_count ns ≤ 1048576 → length d.equations + number is_eq ns ≤ 256 → length d.aims.list + number is_aim ns ≤ 256 → IsPlainDraft d → items_read bytes tokens d ns ≡ Ok e → IsDone e
   items_done [] d e room few equations aims plain q =
+      let sorts = room.sorts in
       let strands = room.strands in
       let ops = room.ops in
-      subst IsDone (ok_is d e q) (record { plain = plain; few_equations = omega (arith, equations); few_ops = omega (arith, ops); few_strands = omega (arith, strands); few_aims = omega (arith, aims) })
+      subst IsDone (ok_is d e q) (record { plain = plain; few_sorts = omega (arith, sorts); few_equations = omega (arith, equations); few_ops = omega (arith, ops); few_strands = omega (arith, strands); few_aims = omega (arith, aims) })
   items_done (n ∷ ns) d e room few equations aims plain q =
       let m = ok_then (λ x. items_read bytes tokens x ns) (item_read bytes tokens d n) e q in
       let step = item_step bytes tokens words d m.value plain n (omega (arith, few)) m.is in
@@ -209,15 +211,19 @@ module _ (bytes : List ℕ) (tokens : List Token) (words : (symbol : ℕ) (ns : 
   part_own source sorts (part.Known u) formed t h = subst (IsOwn sorts) (only_member u t h) formed.term.own
   part_own source sorts (part.Strand number_ bar args) formed t h = (formed.terms t h).own
 
-  pub source_plain : (nodes : List Node) (source : Source) → all_count nodes ≤ 1048576 → limit_of nodes ≡ None → IsWellFormedSource source → source_of bytes tokens nodes ≡ Ok source → IsPlainSource source
-  source_plain nodes source few within formed q =
-      let name = word_of bytes tokens symbol.PROTOCOL_NAME (below symbol.MODULE nodes) in
-      let d = ok_then (finished name) (items_read bytes tokens nothing (items_of nodes)) source q in
+  pub source_done : (nodes : List Node) (d : Draft) → all_count nodes ≤ 1048576 → limit_of nodes ≡ None → items_read bytes tokens nothing (items_of nodes) ≡ Ok d → IsDone d
+  source_done nodes d few within q =
       let limits = kept_limits nodes within in
       let items : all_count (items_of nodes) ≤ 1048576 = omega (arith, few, count_filter (λ n. symbol_of n == symbol.ITEM) (below symbol.MODULE nodes), count_below symbol.MODULE nodes) in
       let equations = limits.equations in
       let aims = limits.aims in
-      let done = items_done (items_of nodes) nothing d.value (room_at_first nodes within) items (omega (arith, equations)) (omega (arith, aims)) plain_at_first d.is in
+      items_done (items_of nodes) nothing d (room_at_first nodes within) items (omega (arith, equations)) (omega (arith, aims)) plain_at_first q
+
+  pub source_plain : (nodes : List Node) (source : Source) → all_count nodes ≤ 1048576 → limit_of nodes ≡ None → IsWellFormedSource source → source_of bytes tokens nodes ≡ Ok source → IsPlainSource source
+  source_plain nodes source few within formed q =
+      let name = word_of bytes tokens symbol.PROTOCOL_NAME (below symbol.MODULE nodes) in
+      let d = ok_then (finished name) (items_read bytes tokens nothing (items_of nodes)) source q in
+      let done = source_done nodes d.value few within d.is in
       let same = ok_is _ source d.gives in
       let few_equations = done.few_equations in
       let few_ops = done.few_ops in

@@ -7,6 +7,8 @@ use Rattle.npa_model.specs.declared.aim.Aim.{Aim}
 use Rattle.npa_model.specs.WellFormed.{IsWellFormedAim, IsPlainAim}
 use Rattle.npa_sig.specs.WellFormed.{IsWellFormedProtocol, IsPlainProtocol}
 use Rattle.npa_module.specs.declared.source.Source.{Source}
+use Rattle.npa_sig.specs.Rules.{IsName, IsNamedProtocol, IsWithinProtocol}
+use Rattle.npa_model.specs.Rules.{AreNamedAims, AreWithinAims}
 
 -- each aim is well formed
 abbrev pub AreWellFormedAims : Signature → List Strand → List Aim → Type 0
@@ -25,3 +27,14 @@ pub record IsPlainSource (source : Source) : Type 0 where
   pub protocol : IsPlainProtocol source.protocol
   pub aims : (k : ℕ) (aim : Aim) → slice_get source.aims k ≡ Some aim → IsPlainAim aim
   pub few_aims : length source.aims < 65535
+
+-- The names of the module, of its protocol and of its aims keep the rules on names,
+pub record IsNamedSource (source : Source) : Type 0 where
+  pub name : IsName source.name
+  pub protocol : IsNamedProtocol source.protocol
+  pub aims : AreNamedAims source.aims
+
+-- and there are as many parts of each kind as the limits allow.
+pub record IsWithinSource (source : Source) : Type 0 where
+  pub protocol : IsWithinProtocol source.protocol
+  pub aims : AreWithinAims source.aims

@@ -1,5 +1,5 @@
 -- Module texts: which bytes stand for which module, and which refusal other bytes have.
-use Rattle.std.specs.Prelude.{ℕ, List, Result, Ok, Err}
+use Rattle.std.specs.Prelude.{ℕ, List, Result, Ok}
 use Rattle.std.specs.Option.{option_map}
 use Rattle.npa_syntax.specs.declared.node.Node.{Node}
 use Rattle.npa_text.specs.declared.token.Token.{Token}

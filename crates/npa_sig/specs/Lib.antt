@@ -11,3 +11,4 @@ pub mod Values
 pub mod Parameters
 pub mod WellFormed
 pub mod Substitutions
+pub mod Rules

@@ -1,4 +1,4 @@
-use Rattle.std.proofs.Common.{◌≡◌, sym, subst}
+use Rattle.std.proofs.Common.{sym, subst}
 use Rattle.npa_sig.specs.Signature.{Signature}
 use Rattle.npa_sig.specs.Operators.{HasSorts}
 use Rattle.npa_module.proofs.draft.declare.Goals as goal

@@ -1,9 +1,9 @@
-use Rattle.std.proofs.Common.{◌≡◌, ◌∙◌}
+use Rattle.std.proofs.Common.{◌∙◌}
 use Rattle.npa_syntax.specs.Languages.{language}
 use Rattle.npa_text.specs.Languages.{module_language}
 use Rattle.npa_reading.proofs.Answering.{parsed_answer, parsed_only, stopped_answer, stopped_only}
 use Rattle.npa_module.specs.Modules.{module_reader}
-use Rattle.npa_module.proofs.Answered.{formed_answer, plain_answer, same_refusal}
+use Rattle.npa_module.proofs.Answered.{formed_answer, plain_answer, named_answer, within_answer, same_refusal}
 use Rattle.npa_module.proofs.reader.read.Goals as goal
 
 pub returns-in-Ok-clause-answer : goal.returns-in-Ok-clause-answer
@@ -31,3 +31,9 @@ returns-in-Ok-clause-form c = formed_answer c.args.bytes.now c.read_nodes.result
 
 pub returns-in-Ok-clause-plain : goal.returns-in-Ok-clause-plain
 returns-in-Ok-clause-plain c = plain_answer c.args.bytes.now c.read_nodes.result c.requires (returns-in-Ok-clause-answer c)
+
+pub returns-in-Ok-clause-named : goal.returns-in-Ok-clause-named
+returns-in-Ok-clause-named c = named_answer c.args.bytes.now c.read_nodes.result c.requires (returns-in-Ok-clause-answer c)
+
+pub returns-in-Ok-clause-within : goal.returns-in-Ok-clause-within
+returns-in-Ok-clause-within c = within_answer c.args.bytes.now c.read_nodes.result c.requires (returns-in-Ok-clause-answer c)
