@@ -5,12 +5,11 @@ use Rattle.std.specs.Option.{option_copied}
 use Rattle.std.specs.List.{position_or_len}
 use Rattle.std.specs.Str.{bytes_eq}
 use Rattle.std.proofs.lemmas.List.Folds.{find_at}
-use Rattle.npa_sig.specs.declared.fault.GroundFault.{GroundFault}
-use Rattle.npa_sig.specs.declared.fault.GroundFault.TheVariants.{Inhabited, Ground}
 use Rattle.npa_sig.specs.declared.protocol.Protocol.{Protocol}
 use Rattle.npa_model.specs.declared.aim.Aim.{Aim}
 use Rattle.npa_model.specs.declared.run.Run.{Run}
 use Rattle.npa_model.specs.WellFormed.{IsWellFormedAim}
+use Rattle.npa_model.specs.Accepted.{IsAccepted}
 use Rattle.npa_model.specs.Aims.{Reaches}
 use Rattle.npa_module.specs.declared.source.Source.{Source}
 use Rattle.npa_module.specs.declared.source.ReadError.{ReadError}
@@ -30,16 +29,16 @@ use Rattle.npa_run_text.specs.RunTexts.{ReadsRun}
 use Rattle.npa_replaying.specs.Lines.{answer_status}
 use Rattle.npa_rewrite.specs.Theories.{theory_of}
 use Rattle.npa_replaying.specs.Replaying.{OfRun, RunAnswer, IsForRun, IsTrueAnswer}
-use Rattle.npa_answers.specs.declared.checks.CheckFault.{CheckFault}
-use Rattle.npa_answers.specs.declared.checks.CheckFault.TheVariants as check_fault
+use Rattle.npa_checks.specs.Checks.{IsSound}
+use Rattle.npa_checks.proofs.Statuses.{fault_told}
 use Rattle.npa_answers.specs.declared.commands.Command.{Command}
 use Rattle.npa_answers.specs.declared.commands.Command.TheVariants as command
 use Rattle.npa_answers.specs.declared.judging.Stop.{Stop}
 use Rattle.npa_answers.specs.declared.judging.Stop.TheVariants as stop
-use Rattle.npa_answers.specs.Checks.{IsJudged, IsOnlyJudged}
+use Rattle.npa_answers.specs.Judging.{IsJudged, IsOnlyJudged}
 use Rattle.npa_answers.specs.Commands.{command_of, word_at, usage_line}
-use Rattle.npa_answers.specs.Lines.{refusal, ground_status, fault_status, refused_no_aim, stop_line}
-use Rattle.npa_answers.specs.Answers.{ModuleAnswer, OfModule, aim_named, AimAnswer, Replays, Usage, ShownFor, Shown, Passes, AreToldOf, AreSettledOf, IsForReplay, AreTold, AreSettled, IsFor, is_told, RunReaches, ReadFault, ReadFaultOf}
+use Rattle.npa_answers.specs.Lines.{refusal, refused_no_aim, stop_line}
+use Rattle.npa_answers.specs.Answers.{ModuleAnswer, OfModule, aim_named, AimAnswer, Replays, Usage, ShownFor, Shown, Passes, AreToldOf, IsForReplay, AreTold, IsFor, is_told, RunReaches, ReadFault, ReadFaultOf}
 
 -- the member of an option
 the_same : {A : Type 0} {x y : A} → Some x ≡ Some y → y ≡ x
@@ -56,16 +55,13 @@ module _ (outside : Outside) (file name run : List ℕ) where
   abbrev rest : Outside → Source → List ℕ → ℕ → Type 0
   rest o source = AimAnswer (aim_named name source.aims) name (OfRun o run source.protocol)
 
-  abbrev Known : Type 0
-  Known = AreToldOf outside file name run × AreSettledOf outside file name run
-
   from_judged : (judged : Result Source Stop) → IsJudged outside file judged → IsOnlyJudged outside file judged → (text : List ℕ) (status : ℕ) → ModuleAnswer judged (rest outside) text status →
-      (Known → IsOnly (ModuleAnswer judged (rest (whatever_rose outside))) text status) → IsForReplay outside file name run text status
+      (AreToldOf outside file name run → IsOnly (ModuleAnswer judged (rest (whatever_rose outside))) text status) → IsForReplay outside file name run text status
   from_judged judged is others text status shown only = record {
     shown = record { judged = judged; is = is; shown = shown };
     only = λ known other number of.
         only known other number
-        (subst (λ (j : Result Source Stop). ModuleAnswer j (rest (whatever_rose outside)) other number) (others known.0.module_told of.judged of.is) of.shown);
+        (subst (λ (j : Result Source Stop). ModuleAnswer j (rest (whatever_rose outside)) other number) (others known.module_told of.judged of.is) of.shown);
   }
 
   pub for_stop : (s : Stop) → IsJudged outside file (Err s) → IsOnlyJudged outside file (Err s) → (text : List ℕ) (status : ℕ) → stop_line s ≡ Some (text, status) → IsForReplay outside file name run text status
@@ -86,7 +82,7 @@ module _ (outside : Outside) (file name run : List ℕ) where
       pub for_run : (text : List ℕ) (status : ℕ) → IsForRun outside run source.protocol aim text status → IsForReplay outside file name run text status
       for_run text status one =
           from_judged (Ok source) is others text status (subst (λ (o : Option Aim). AimAnswer o name (OfRun outside run source.protocol) text status) (sym named) one.shown)
-          (λ known other number of. one.only (known.0.run_is_told source aim it_passes, known.1 source aim it_passes) other number
+          (λ known other number of. one.only (known.run_is_told source aim it_passes) other number
           (subst (λ (o : Option Aim). AimAnswer o name (OfRun (whatever_rose outside) run source.protocol) other number) named of))
 
 -- ## The words
@@ -119,7 +115,7 @@ module _ (outside : Outside) (words : List (List ℕ)) where
         IsForReplay outside file name run text status → IsFor outside words text status
     for_replay file name run f n r text status one = record {
       shown = subst (λ (c : Option Command). ShownFor c outside words text status) (sym so) here.shown;
-      only = λ known other number of. here.only (known.0 so, known.1 so) other number (subst (λ (c : Option Command). ShownFor c (whatever_rose outside) words other number) so of);
+      only = λ known other number of. here.only (known so) other number (subst (λ (c : Option Command). ShownFor c (whatever_rose outside) words other number) so of);
     }
       where
         here : IsForReplay outside (word_at words 1) (word_at words 2) (word_at words 3) text status
@@ -147,6 +143,15 @@ pub good_aim : (source : Source) (name : List ℕ) (aim : Aim) → IsWellFormedS
 good_aim source name aim good is =
     good.aims (position_or_len (λ a. bytes_eq a.name name) source.aims) aim (sym (find_at (λ a. bytes_eq a.name name) source.aims) ∙ is)
 
+-- the aim is accepted where the module passes
+pub accepted_aim : (source : Source) (name : List ℕ) (aim : Aim) → IsSound source → aim_named name source.aims ≡ Some aim → IsAccepted (theory_of source.protocol) aim
+accepted_aim source name aim sound is =
+    sound.accepted (position_or_len (λ a. bytes_eq a.name name) source.aims) aim (sym (find_at (λ a. bytes_eq a.name name) source.aims) ∙ is)
+
+-- what holds of a module that is judged to pass
+pub sound_judged : (outside : Outside) (file : List ℕ) (judged : Result Source Stop) (source : Source) → judged ≡ Ok source → IsJudged outside file judged → IsSound source
+sound_judged outside file judged source e is = (subst (IsJudged outside file) e is).1.sound
+
 -- what follows from the second file, where that was read after the first
 pub run_answer : (r : Result Printed Halt) {P Q : List ℕ → ℕ → Type 0} → ((text : List ℕ) (status : ℕ) → P text status → Q text status) →
     IfOk r (λ a. P a.text.items a.status) → IfOk r (λ a. Q a.text.items a.status)
@@ -163,22 +168,11 @@ refusal_status (read_error.Name name line col) text status e = inl (ap (λ (p : 
 refusal_status (read_error.Sort name line col) text status e = inl (ap (λ (p : List ℕ × ℕ). p.1) (the_same e))
 refusal_status read_error.NoMemory text status e = absurd (cc)
 
-fault_is : (fault : CheckFault) → (fault_status fault ≡ 3) ⊎ (fault_status fault ≡ 7)
-fault_is (check_fault.Ground (Inhabited s)) = inl refl
-fault_is (check_fault.Ground (Ground s n)) = inr refl
-fault_is (check_fault.Equation n) = inl refl
-
 -- a module file that is none that passes has the status 3 or 7
 stop_status : (s : Stop) (text : List ℕ) (status : ℕ) → stop_line s ≡ Some (text, status) → (status ≡ 3) ⊎ (status ≡ 7)
 stop_status stop.TooLong text status e = inr (ap (λ (p : List ℕ × ℕ). p.1) (the_same e))
 stop_status (stop.Refused error) text status e = refusal_status error text status e
-stop_status (stop.Failed source fault) text status e =
-    let is : status ≡ fault_status fault = ap (λ (p : List ℕ × ℕ). p.1) (the_same e) in
-    either (fault_is fault) is
-  where
-    either : (fault_status fault ≡ 3) ⊎ (fault_status fault ≡ 7) → status ≡ fault_status fault → (status ≡ 3) ⊎ (status ≡ 7)
-    either (inl three) is = inl (is ∙ three)
-    either (inr seven) is = inr (is ∙ seven)
+stop_status (stop.Failed source fault) text status e = fault_told source fault text status e
 
 three_or_seven : (status : ℕ) → (status ≡ 3) ⊎ (status ≡ 7) → is_told status ≡ true
 three_or_seven status (inl e) = ap is_told e
@@ -226,8 +220,8 @@ told_status outside words text status is = shown_status outside words (command_o
 
 -- where the files' texts are known and the run reaches the aim, this is what is told
 pub reached_status : (outside : Outside) (words : List (List ℕ)) (text : List ℕ) (status : ℕ) → IsFor outside words text status →
-    AreTold outside words → AreSettled outside words → RunReaches outside words → status ≡ 0
-reached_status outside words text status is known settled r =
+    AreTold outside words → RunReaches outside words → status ≡ 0
+reached_status outside words text status is known r =
     let of_run : OfRun (whatever_rose outside) (word_at words 3) r.source.protocol r.aim (codes "reaches\n") 0 = record {
       found = loaded.Read r.run;
       loaded = r.run_is;
@@ -238,10 +232,10 @@ reached_status outside words text status is known settled r =
       is = r.passes.judged;
       shown = subst (λ (o : Option Aim). AimAnswer o (word_at words 2) (OfRun (whatever_rose outside) (word_at words 3) r.source.protocol) (codes "reaches\n") 0) (sym r.passes.aim_is) of_run;
     } in
-    sym (is.only (known, settled) (codes "reaches\n") 0 (subst (λ (c : Option Command). ShownFor c (whatever_rose outside) words (codes "reaches\n") 0) (sym r.command) replays)).1
+    sym (is.only known (codes "reaches\n") 0 (subst (λ (c : Option Command). ShownFor c (whatever_rose outside) words (codes "reaches\n") 0) (sym r.command) replays)).1
 
 reaches_at : (protocol : Protocol) (aim : Aim) (run : Run) (answer : Replay) → IsTrueAnswer protocol aim run answer → answer_status answer ≡ 0 →
-    OfNormalForms (theory_of protocol) aim (λ nf. Reaches nf protocol aim run)
+    OfNormalForms (theory_of protocol) (λ nf. Reaches nf protocol aim run)
 reaches_at protocol aim run replay.Reaches is z = is
 reaches_at protocol aim run (replay.Stops step why) is z = absurd (omega (arith, z))
 reaches_at protocol aim run (replay.Misses part) is z = absurd (omega (arith, z))

@@ -13,11 +13,11 @@ use Rattle.npa_outside.specs.Loads.{IsLoaded}
 use Rattle.npa_outside.specs.Outside.{Outside, whatever_rose, IsTold, IsTheOne}
 use Rattle.npa_run_text.specs.RunTexts.{ReadsRun}
 use Rattle.npa_rewrite.specs.Theories.{theory_of}
-use Rattle.npa_replaying.specs.Replaying.{OfRun, IsSettledFor}
+use Rattle.npa_replaying.specs.Replaying.{OfRun}
 use Rattle.npa_answers.specs.declared.commands.Command.{Command}
 use Rattle.npa_answers.specs.declared.commands.Command.TheVariants as command
 use Rattle.npa_answers.specs.declared.judging.Stop.{Stop}
-use Rattle.npa_answers.specs.Checks.{IsJudged}
+use Rattle.npa_answers.specs.Judging.{IsJudged}
 use Rattle.npa_answers.specs.Commands.{command_of, word_at, usage_line}
 use Rattle.npa_answers.specs.Lines.{refused_no_aim, stop_line}
 
@@ -78,28 +78,18 @@ pub record AreToldOf (outside : Outside) (file name run : List ℕ) : Type 0 whe
   pub module_told : IsTold outside file
   pub run_is_told : (source : Source) (aim : Aim) → Passes outside file name source aim → IsTold outside run
 
--- where the module passes and has the aim, and the second file holds a run, its theory is convergent and
--- the aim is accepted
-abbrev pub AreSettledOf : Outside → List ℕ → List ℕ → List ℕ → Type 0
-AreSettledOf outside file name run = (source : Source) (aim : Aim) → Passes outside file name source aim → IsSettledFor outside run source.protocol aim
-
 -- for the names behind `replay`
 abbrev pub IsForReplay : Outside → List ℕ → List ℕ → List ℕ → List ℕ → ℕ → Type 0
 IsForReplay outside file name run text status =
-    IsTheOne (AreToldOf outside file name run × AreSettledOf outside file name run) (Replays outside file name run) (Replays (whatever_rose outside) file name run) text status
+    IsTheOne (AreToldOf outside file name run) (Replays outside file name run) (Replays (whatever_rose outside) file name run) text status
 
 -- what the files hold that the words need is known
 abbrev pub AreTold : Outside → List (List ℕ) → Type 0
 AreTold outside words = command_of words ≡ Some command.Replay → AreToldOf outside (word_at words 1) (word_at words 2) (word_at words 3)
 
--- and it is settled what a replay needs
-abbrev pub AreSettled : Outside → List (List ℕ) → Type 0
-AreSettled outside words = command_of words ≡ Some command.Replay → AreSettledOf outside (word_at words 1) (word_at words 2) (word_at words 3)
-
--- The text and the status are for these words, and where the files' texts are known and what a replay
--- needs is settled, no others are.
+-- The text and the status are for these words, and where the files' texts are known, no others are.
 abbrev pub IsFor : Outside → List (List ℕ) → List ℕ → ℕ → Type 0
-IsFor outside words text status = IsTheOne (AreTold outside words × AreSettled outside words) (Shown outside words) (Shown (whatever_rose outside) words) text status
+IsFor outside words text status = IsTheOne (AreTold outside words) (Shown outside words) (Shown (whatever_rose outside) words) text status
 
 -- ## What is written
 
@@ -121,7 +111,7 @@ pub record PrintsFront (outside : Outside) (words : List (List ℕ)) (before aft
   pub front : AppendsFront before after text
 
 -- The words ask for a replay, the files hold a module that passes and a run of its protocol, and the
--- run reaches the module's aim of that name, where the theory is convergent and the aim is accepted.
+-- run reaches the module's aim of that name.
 pub record RunReaches (outside : Outside) (words : List (List ℕ)) : Type 0 where
   pub source : Source
   pub aim : Aim
@@ -129,7 +119,7 @@ pub record RunReaches (outside : Outside) (words : List (List ℕ)) : Type 0 whe
   pub command : command_of words ≡ Some command.Replay
   pub passes : Passes outside (word_at words 1) (word_at words 2) source aim
   pub run_is : IsLoaded (ReadsRun source.protocol) outside (word_at words 3) (loaded.Read run)
-  pub reaches : OfNormalForms (theory_of source.protocol) aim (λ nf. Reaches nf source.protocol aim run)
+  pub reaches : OfNormalForms (theory_of source.protocol) (λ nf. Reaches nf source.protocol aim run)
 
 -- A fault of reading shows in the count of the first file, or in that of the second, which is read only
 -- where the module passes and has the aim.

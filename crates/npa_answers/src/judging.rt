@@ -1,13 +1,13 @@
 ghost use Rattle.std.specs.Prelude.{◌≡◌, ◌≤◌, ℕ, List, IfOk, IfSome};
 ghost use Rattle.std.specs.Result.{IsErrOf};
 ghost use Rattle.npa_text.specs.Counts.{Rose};
-ghost use Rattle.npa_module.specs.Forms.{IsWellFormedSource};
+ghost use Rattle.npa_module.specs.Forms.{IsWellFormedSource, IsPlainSource};
 ghost use Rattle.npa_module.specs.Modules.{Reads};
 ghost use Rattle.npa_outside.specs.Loads.{LoadsText, LoadsTextAlone, IfRead, OnTooLong};
 ghost use Rattle.npa_outside.specs.Outside.{counted};
-ghost use Rattle.npa_answers.specs.Checks.{IsJudged, IsOnlyJudged};
+ghost use Rattle.npa_answers.specs.Judging.{IsJudged, IsOnlyJudged};
 
-use crate::checks::{CheckFault, first_fault};
+use npa_checks::{CheckFault, first_fault};
 use npa_module::{ReadError, Source, read};
 use npa_outside::{Halt, Loaded, load};
 use npa_text::Files;
@@ -65,6 +65,7 @@ fn load_module<F: Files>(
     ensures only { IfOk result (LoadsTextAlone Reads (F.holds files.old name.now)) }
     ensures long { IfOk result (λ loaded. OnTooLong loaded (Rose (F.longs files.old name.now) (F.longs files.new name.now))) }
     ensures form { IfOk result (λ loaded. IfRead loaded IsWellFormedSource) }
+    ensures plain { IfOk result (λ loaded. IfRead loaded IsPlainSource) }
     ensures fault { IsErrOf result Halt.Fault → Rose (F.faults files.old name.now) (F.faults files.new name.now) }
 {
     let bytes = match load(alloc, files, name)? {

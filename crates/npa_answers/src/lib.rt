@@ -3,7 +3,6 @@
 //! the text and status that come of it.
 #![tactic(auto)]
 
-mod checks;
 mod commands;
 mod judging;
 mod lines;

@@ -1,12 +1,11 @@
 ghost use Rattle.std.specs.Prelude.{◌≡◌, Some, IfOk};
 ghost use Rattle.npa_answers.specs.Commands.{usage_line};
-ghost use Rattle.npa_answers.specs.Lines.{refusal, ground_text, ground_status, refused_equation, refused_no_aim, stop_line};
+ghost use Rattle.npa_answers.specs.Lines.{refusal, refused_no_aim, stop_line};
 
-use crate::checks::CheckFault;
 use crate::judging::Stop;
+use npa_checks::fault_line;
 use npa_module::ReadError;
-use npa_outside::{LIMIT_BYTES, Printed, put_counted, put_numbered, put_place, put_word, told};
-use npa_sig::{GroundFault, Sig};
+use npa_outside::{LIMIT_BYTES, Printed, put_counted, put_place, put_word, told};
 use npa_term::NoMemory;
 use std::alloc::{AllocError, Global};
 
@@ -30,10 +29,7 @@ pub(crate) fn stopped(alloc: Global, stop: &Stop) -> Result<Printed, NoMemory>
     match stop {
         Stop::TooLong => Ok(told(alloc, LIMIT_BYTES, 7)?),
         Stop::Refused(error) => refusal(alloc, error),
-        Stop::Failed(source, CheckFault::Ground(fault)) => {
-            groundless(alloc, &source.protocol.sig, *fault)
-        }
-        Stop::Failed(_, CheckFault::Equation(number)) => refused_equation(alloc, *number),
+        Stop::Failed(source, fault) => fault_line(alloc, source, fault),
     }
 }
 
@@ -63,37 +59,6 @@ fn refusal(alloc: Global, error: &ReadError) -> Result<Printed, NoMemory>
         ReadError::NoMemory => return Err(NoMemory),
     }
     Ok(Printed { text, status })
-}
-
-// The line for a sort that has no ground term, or none that is small enough.
-fn groundless(alloc: Global, sig: &Sig, fault: GroundFault) -> Result<Printed, NoMemory>
-    ensures text { IfOk result (λ a. a.text.items ≡ ground_text sig.now fault) }
-    ensures status { IfOk result (λ a. a.status ≡ ground_status fault) }
-{
-    let mut text = Vec::new(alloc);
-    match fault {
-        GroundFault::Inhabited(sort) => {
-            text.extend_from_slice(b"refused inhabited ")?;
-            text.extend_from_slice(sig.sort_name(sort))?;
-            text.extend_from_slice(b"\n")?;
-            Ok(Printed { text, status: 3 })
-        }
-        GroundFault::Ground(sort, symbols) => {
-            put_counted(&mut text, b"limit ground ", sig.sort_name(sort), symbols)?;
-            Ok(Printed { text, status: 7 })
-        }
-    }
-}
-
-// The line for an equation that doesn't cancel, by its number from 1.
-fn refused_equation(alloc: Global, number: u64) -> Result<Printed, NoMemory>
-    ensures text { IfOk result (λ a. a.text.items ≡ refused_equation number) }
-    ensures status { IfOk result (λ a. a.status ≡ 3) }
-{
-    let mut text = Vec::new(alloc);
-    put_numbered(&mut text, b"refused equation ", number)?;
-    text.extend_from_slice(b"\n")?;
-    Ok(Printed { text, status: 3 })
 }
 
 /// The line for an aim that isn't in the module.

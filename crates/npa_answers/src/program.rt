@@ -5,7 +5,7 @@ ghost use Rattle.std.specs.Option.{option_copied};
 ghost use Rattle.std.specs.Result.{IsErrOf};
 ghost use Rattle.npa_text.specs.Counts.{Rose};
 ghost use Rattle.npa_outside.specs.Outside.{counted};
-ghost use Rattle.npa_answers.specs.Answers.{IsFor, IsForReplay, AreSettled, AreTold, ReadFault, ReadFaultOf, Prints, PrintsFront, RunReaches, is_told, aim_named};
+ghost use Rattle.npa_answers.specs.Answers.{IsFor, IsForReplay, AreTold, ReadFault, ReadFaultOf, Prints, PrintsFront, RunReaches, is_told, aim_named};
 
 use crate::commands::{Command, read_command, word};
 use crate::judging::judge;
@@ -27,12 +27,10 @@ pub struct Ended {
 
 /// Does what the words ask for: `replay FILE AIM RUN` replays the run of the file RUN against an aim
 /// of the module of FILE. The module's text is looked at first: its length, its syntax, its limits, its
-/// names and sorts, the ground terms of its sorts, and the shape of its equations; then the aim's
-/// name; then the run's text in the same way; and then the run. The text is made first and written at
-/// once. Words that are no command, and a command that isn't built yet, are answered by the usage line.
-///
-/// What is said of a run is promised where the module's theory is convergent and the aim is accepted,
-/// which isn't checked.
+/// names and sorts, and then its checks: the ground terms of its sorts, whether its theory is convergent,
+/// whether its aims are accepted; then the aim's name; then the run's text in the same way; and then the
+/// run. The text is made first and written at once. Words that are no command, and a command that isn't
+/// built yet, are answered by the usage line.
 #[tactic(auto, using(crate::proofs::Showing::told_reaches, crate::proofs::Showing::told_status))]
 pub fn npa_plain<F: Files, K: Sink>(
     alloc: Global,
@@ -46,13 +44,12 @@ pub fn npa_plain<F: Files, K: Sink>(
         words.now (K.written out.old) (K.written out.new) result.status }
 
     // `reaches` comes only of a run that reaches the aim, and where the files' texts are known, of
-    // each such run whose text is written. Both are said of a convergent theory and an accepted aim.
+    // each such run whose text is written.
     ensures reaches { result.status ≡ 0 → RunReaches
         (counted (F.holds files.old) (F.longs files.old) (F.longs files.new) (F.faults files.old) (F.faults files.new))
         words.now }
     ensures reached { is_told result.status ≡ true
         → AreTold (counted (F.holds files.old) (F.longs files.old) (F.longs files.new) (F.faults files.old) (F.faults files.new)) words.now
-        → AreSettled (counted (F.holds files.old) (F.longs files.old) (F.longs files.new) (F.faults files.old) (F.faults files.new)) words.now
         → RunReaches (counted (F.holds files.old) (F.longs files.old) (F.longs files.new) (F.faults files.old) (F.faults files.new)) words.now
         → result.status ≡ 0 }
     ensures unread { result.status ≡ 4 → ReadFault

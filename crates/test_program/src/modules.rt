@@ -59,7 +59,7 @@ aim second : known a; aim third : known f(a); => 0 2 >reaches~
 sort S; op c : -> S; => 0 2 >reaches~
 op p : Msg Msg -> Msg comm; => 0 2 >reaches~
 eq vars X:Msg : f(f(f(X))) = X; => 0 2 >reaches~
-eq vars X:Msg : f(X) = X; => 9 2 >stops 0 normal 1 X~
+eq vars X:Msg : f(X) = X; => 3 1 >refused aim got f(f(a)) 1~
 \u{e9} => 3 1 >refused syntax 6:1~
 op comm => 3 1 >refused syntax 6:4~
 aim a => 3 1 >refused syntax 6:6~
@@ -145,7 +145,8 @@ eq vars K:Key M:Msg : d(K,e(K,M)) = M;
 // Equations behind one that cancels. No module has the aim, so that one whose equations all cancel is
 // refused for it.
 const SHAPE_ROWS: &str = " => 3 1 >refused no aim got~
-eq vars X:Msg : e(k,X) = X; => 3 1 >refused no aim got~
+eq vars X:Msg : e(k,X) = X; => 3 1 >refused confluence d(k,e(k,?1:Msg)) ?1:Msg d(k,?1:Msg)~
+eq vars X:Msg : e(k,X) = X; eq : a = k; => 3 1 >refused equation 3~
 eq vars X:Msg : e(k,X) = a; => 3 1 >refused equation 2~
 eq vars X:Msg : X = X; => 3 1 >refused equation 2~
 eq vars X:Msg Y:Msg : e(k,X) = Y; => 3 1 >refused equation 2~

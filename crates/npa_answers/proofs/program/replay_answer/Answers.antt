@@ -9,10 +9,10 @@ use Rattle.npa_outside.proofs.FileLoads.{rose_since}
 use Rattle.npa_replaying.specs.Replaying.{IsForRun}
 use Rattle.npa_replaying.proofs.OneRun.{moved_run}
 use Rattle.npa_answers.specs.declared.judging.Stop.{Stop}
-use Rattle.npa_answers.specs.Checks.{IsJudged, IsOnlyJudged}
+use Rattle.npa_answers.specs.Judging.{IsJudged, IsOnlyJudged}
 use Rattle.npa_answers.specs.Lines.{refused_no_aim}
 use Rattle.npa_answers.specs.Answers.{aim_named, second, IsForReplay}
-use Rattle.npa_answers.proofs.Showing.{for_stop, for_no_aim, for_run, it_passes, found_aim, good_aim, run_answer}
+use Rattle.npa_answers.proofs.Showing.{for_stop, for_no_aim, for_run, it_passes, found_aim, good_aim, accepted_aim, sound_judged, run_answer}
 use Rattle.npa_answers.proofs.program.replay_answer.Goals as goal
 
 pub returns-in-Err-clause-shown : goal.returns-in-Err-clause-shown
@@ -25,6 +25,17 @@ returns-in-Err-clause-shown g c =
 pub run_answer-requires-clause-aim : goal.run_answer-requires-clause-aim
 run_answer-requires-clause-aim g c =
     good_aim c.in-Ok.source c.args.name.now c.in-Some.aim.now (subst (λ (j : Result Source Stop). IfOk j IsWellFormedSource) c.in-Ok.is c.in_ok-source.ensures.form)
+    (found_aim c.find_aim.result c.as_bytes.result.now c.args.name.now c.as_slice.result.now c.in-Ok.source.aims c.find_aim.ensures c.as_bytes.ensures.value c.as_slice.ensures ∙ ap option_copied c.in-Some.is)
+
+pub run_answer-requires-clause-cancelling : goal.run_answer-requires-clause-cancelling
+run_answer-requires-clause-cancelling g c = (sound_judged (counted (g.F.Files.holds c.args.files.now) (g.F.Files.longs c.args.files.now) (g.F.Files.longs c.judge.new.files) (g.F.Files.faults c.args.files.now) (g.F.Files.faults c.judge.new.files)) c.args.file.now _ c.in-Ok.source c.in-Ok.is c.in_ok-source.ensures.judged).cancelling
+
+pub run_answer-requires-clause-convergent : goal.run_answer-requires-clause-convergent
+run_answer-requires-clause-convergent g c = (sound_judged (counted (g.F.Files.holds c.args.files.now) (g.F.Files.longs c.args.files.now) (g.F.Files.longs c.judge.new.files) (g.F.Files.faults c.args.files.now) (g.F.Files.faults c.judge.new.files)) c.args.file.now _ c.in-Ok.source c.in-Ok.is c.in_ok-source.ensures.judged).convergent
+
+pub run_answer-requires-clause-accepted : goal.run_answer-requires-clause-accepted
+run_answer-requires-clause-accepted g c =
+    accepted_aim c.in-Ok.source c.args.name.now c.in-Some.aim.now (sound_judged (counted (g.F.Files.holds c.args.files.now) (g.F.Files.longs c.args.files.now) (g.F.Files.longs c.judge.new.files) (g.F.Files.faults c.args.files.now) (g.F.Files.faults c.judge.new.files)) c.args.file.now _ c.in-Ok.source c.in-Ok.is c.in_ok-source.ensures.judged)
     (found_aim c.find_aim.result c.as_bytes.result.now c.args.name.now c.as_slice.result.now c.in-Ok.source.aims c.find_aim.ensures c.as_bytes.ensures.value c.as_slice.ensures ∙ ap option_copied c.in-Some.is)
 
 pub returns-in-Some-clause-shown : goal.returns-in-Some-clause-shown
