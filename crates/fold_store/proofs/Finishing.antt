@@ -19,7 +19,7 @@ use Rattle.fold_store.specs.Table.{TakenEntry, clip_status, clip_entry}
 use Rattle.fold_store.specs.declared.error.StoreFail.{StoreFail}
 use Rattle.fold_store.specs.Work.{Expansion}
 use Rattle.fold_store.specs.Hints.{HintSays, Hinted, guided, unguided, HintsSettle, all_placed}
-use Rattle.fold_store.specs.Store.{State, Next, owed_by, Sound, ChildOf, IsFor, Inserts, nothing, one_more, Settled, folded, inserted, clipped, Closing, closed, Finishes}
+use Rattle.fold_store.specs.Store.{State, Next, owed_by, Sound, ChildOf, IsFor, Inserts, InsertsBelow, InsertsOnce, nothing, one_more, none_behind, one_behind, Settled, folded, inserted, clipped, Closing, closed, Finishes}
 use Rattle.fold_store.proofs.Clipping.{clip_taken, clip_owed, owed_clip, clipped_placed, clip_none}
 use Rattle.fold_store.proofs.Hinting.{hints_settle, hints_more, hinted_clip}
 use Rattle.fold_store.proofs.Events.{in_budget, owed_set}
@@ -40,12 +40,17 @@ expanding_placed r tick n xs x origin p c e = placed_keeps r tick (Expanding r n
 -- these hints.
 pub record Finishing {F I : Type 0} (rules : F → Rules I) (old now : State F I) (n : ℕ) (hints : List ℕ) (children xs : List I) (ps : List Placed) : Type 0 where
   pub inserts : Inserts rules n old now
+  pub once : InsertsBelow rules n old (length xs) now
   pub same : now ≡ record old { history = now.history; core = now.core }
   pub history : take (length old.history) now.history ≡ old.history
   pub longer : length old.history ≤ length now.history
   pub began : Expanding (rules old.rules) n children old.core
   pub expanding : Expanding (rules old.rules) n children now.core
   pub by_hints : HintsSettle (rules old.rules) (length old.history) n hints 0 xs ps old.core (clipped (length old.history) now.core)
+
+raised : {F I : Type 0} {rules : F → Rules I} {n : ℕ} {s t : State F I} (low high : ℕ) → InsertsBelow rules n s low t → low ≤ high → InsertsBelow rules n s high t
+raised low high (none_behind bound) at = none_behind high
+raised low high (one_behind t u child bound p before step less) at = one_behind t u child high p before step (omega (arith, less, at))
 
 expanding_for : {F I : Type 0} (rules : F → Rules I) (s : State F I) (n : ℕ) (w : Expansion F I) → IsFor s n w → (rules w.rules).expansion w.item ≡ Ok w.children → Expanding (rules s.rules) n w.children s.core
 expanding_for rules s n w f e = record {
@@ -67,6 +72,7 @@ finishing_start rules s n hints w xs ps law after f e no_child no_place =
     ap (λ es. record s.core { entries = es }) (clip_none (length s.history) s.core.entries (λ m d to tick taken t q. (ticks m d to tick taken t q).0)) in
     record {
       inserts = nothing;
+      once = none_behind (length xs);
       same = refl;
       history = take_all s.history;
       longer = omega arith;
@@ -98,8 +104,9 @@ hinted_of {rules = rules} {old = old} {now = now} {hints = hints} {k = k} {x = x
 finishing_folded : {F I : Type 0} {rules : F → Rules I} {old now : State F I} {n : ℕ} {hints : List ℕ} {children xs : List I} {ps : List Placed} (k : ℕ) (x : I) (into : ℕ)
     → Finishing rules old now n hints children xs ps → k ≡ length xs → Hinted (rules old.rules) x (slice_get hints k) (clipped (length old.history) now.core) (Folded into)
     → Finishing rules old now n hints children (xs ++ x ∷ []) (ps ++ Folded into ∷ [])
-finishing_folded k x into f at h = record {
+finishing_folded {xs = xs} k x into f at h = record {
   inserts = f.inserts;
+  once = raised (length xs) (length (xs ++ x ∷ [])) f.once (let many = length-append xs (x ∷ []) in omega arith);
   same = f.same;
   history = f.history;
   longer = f.longer;
@@ -127,6 +134,7 @@ finishing_inserted {rules = rules} {old = old} {now = now} {n = n} {hints = hint
     ap (clipped start) core ∙ clipped_placed r (length now.history) start x (Child n k) p now.core longer in
     record {
       inserts = one_more now next k p f.inserts step;
+      once = one_behind now next k (length (xs ++ x ∷ [])) p (subst (λ m. InsertsBelow rules n old m now) (sym at) f.once) step (let count = length-append xs (x ∷ []) in omega arith);
       same = step.same ∙ ap (λ (v : State _ _). record v { history = now.history ++ event ∷ []; core = next.core }) f.same ∙ ap (λ h. record old { history = h; core = next.core }) (sym events);
       history = ap (take start) events ∙ take-append-le start now.history (event ∷ []) longer ∙ f.history;
       longer = omega arith;
@@ -269,6 +277,11 @@ pub inserts_settled : {F I : Type 0} (rules : F → Rules I) {n k : ℕ} {x : I}
     → Inserts rules n old next
 inserts_settled rules (folded into says) before = before
 inserts_settled rules {k = k} {now = now} (inserted p next none is step after) before = one_more now next k p before step
+
+pub once_settled : {F I : Type 0} (rules : F → Rules I) {n k : ℕ} {x : I} {hint : Option ℕ} {old now next : State F I} {p : Placed} → Settled (rules now.rules) n k x hint now p next → InsertsBelow rules n old k now
+    → InsertsOnce rules n old next
+once_settled rules {k = k} (folded into says) before = (k, before)
+once_settled rules {k = k} {now = now} (inserted p next none is step after) before = (k + 1, one_behind now next k (k + 1) p before step (omega arith))
 
 pub take_whole : {X : Type 0} (xs : List X) (k : ℕ) → length xs ≤ k → take k xs ≡ xs
 take_whole [] zero h = refl

@@ -1,5 +1,5 @@
 -- What the calls on the store say: each is one event of the machine.
-use Rattle.std.specs.Prelude.{◌≡◌, ◌≢◌, ◌⊎◌, ℕ, ◌+◌, ◌≤◌, true, cond, List, [], ◌∷◌, ◌++◌, length, Option, None, Some, IsSome, slice_get, slice_set, map, take}
+use Rattle.std.specs.Prelude.{◌<◌, ◌≡◌, ◌≢◌, ◌⊎◌, ℕ, ◌+◌, ◌≤◌, true, cond, List, [], ◌∷◌, ◌++◌, length, Option, None, Some, IsSome, slice_get, slice_set, map, take}
 use Rattle.std.specs.List.{sum_by}
 use Rattle.std.specs.Option.{option_map}
 use Rattle.fold_core.specs.declared.error.Large.{Large}
@@ -133,6 +133,15 @@ clipped bound c = record c { entries = map (clip_entry bound) c.entries }
 pub data Inserts {F I : Type 0} (rules : F → Rules I) (n : ℕ) (s : State F I) : State F I → Type 0 where
   nothing : Inserts rules n s s
   one_more : (t u : State F I) (child : ℕ) (p : Placed) → Inserts rules n s t → Next (rules t.rules) t (Insert n child p) u → Inserts rules n s u
+
+-- The store goes by inserts of children of entry n alone, each child once at most and in the order of
+-- their numbers, which are below the bound.
+pub data InsertsBelow {F I : Type 0} (rules : F → Rules I) (n : ℕ) (s : State F I) : ℕ → State F I → Type 0 where
+  none_behind : (bound : ℕ) → InsertsBelow rules n s bound s
+  one_behind : (t u : State F I) (child bound : ℕ) (p : Placed) → InsertsBelow rules n s child t → Next (rules t.rules) t (Insert n child p) u → child < bound → InsertsBelow rules n s bound u
+
+abbrev pub InsertsOnce : {F I : Type 0} → (F → Rules I) → ℕ → State F I → State F I → Type 0
+InsertsOnce rules n s t = (bound : ℕ) × InsertsBelow rules n s bound t
 
 -- A child x of entry n was placed: its hint guides to an entry that it is folded into, and nothing
 -- changes, or it is inserted.

@@ -5,7 +5,7 @@ ghost use Rattle.fold_core.specs.declared.event.Event.TheVariants.{Insert, Halt,
 ghost use Rattle.fold_core.specs.Machine.{Entry, Core, Stands, LiveCover, Overflowing, empty, first_found, kept, placed, place_of, Step, After};
 ghost use Rattle.fold_core.specs.Facts.{Leads};
 ghost use Rattle.fold_store.specs.Table.{most_entries, clip_entry, TicksWithin};
-ghost use Rattle.fold_store.specs.Store.{State, Next, event_of, MayPlace, NoRoom, Takes, item_at, IsFor, NoRoomFor, NoRoomForOne, HasVerdict, ChildOf, Settled, Closing, closed, Finishes, Inserts, RootsAlone, PlacesRoot, OpensFull};
+ghost use Rattle.fold_store.specs.Store.{State, Next, event_of, MayPlace, NoRoom, Takes, item_at, IsFor, NoRoomFor, NoRoomForOne, HasVerdict, ChildOf, Settled, Closing, closed, Finishes, Inserts, InsertsOnce, RootsAlone, PlacesRoot, OpensFull};
 ghost use Rattle.fold_store.specs.Hints.{HintSays};
 
 use crate::answer::{Places, Taken, Verdict};
@@ -372,6 +372,7 @@ impl<F: Folding> Ledger<F> {
         ensures stranger { IsErrOf result InsertFail.Stranger ↔ (IsFor self.old id work.now → ⊥) }
         ensures full { IsErrOf result InsertFail.Full → NoRoomForOne (F.rules self.old.rules) self.new work.now }
         ensures kept { OnErr result (Inserts F.rules id self.old self.new) }
+        ensures once { OnErr result (InsertsOnce F.rules id self.old self.new) }
         ensures same { IsErrOf result InsertFail.Stranger → self.new ≡ self.old }
     {
         if !self.is_for(id, work) {

@@ -5,7 +5,7 @@ ghost use Rattle.fold_core.specs.declared.event.Event.TheVariants.{Insert, Halt,
 ghost use Rattle.fold_core.specs.Machine.{Entry, Stands, LiveCover, Overflowing, After, roots_placed};
 ghost use Rattle.fold_core.specs.Facts.{Leads};
 ghost use Rattle.fold_store.specs.Table.{most_entries, live_numbers};
-ghost use Rattle.fold_store.specs.Store.{State, Next, Takes, item_at, IsFor, NoRoomFor, NoRoomForOne, HasVerdict, Finishes, Inserts, Opens, OpensFull, Opened};
+ghost use Rattle.fold_store.specs.Store.{State, Next, Takes, item_at, IsFor, NoRoomFor, NoRoomForOne, HasVerdict, Finishes, Inserts, InsertsOnce, Opens, OpensFull, Opened};
 
 use crate::answer::{Places, Taken, Verdict};
 use crate::error::{InsertFail, StoreFail};
@@ -100,7 +100,7 @@ impl<F: Folding> Store<F> {
     /// Finishes a taken entry by one event. A child is folded into the live entry that the hint of
     /// the same place leads to, where that covers it; any other child is inserted in the same
     /// event. After a refusal the entry is taken still, and the inserts that were made stand in
-    /// the history; a stranger changes nothing.
+    /// the history, no child twice; a stranger changes nothing.
     pub fn finish(
         &mut self,
         alloc: Global,
@@ -112,6 +112,7 @@ impl<F: Folding> Store<F> {
         ensures stranger { IsErrOf result InsertFail.Stranger ↔ (IsFor self.old id work.now → ⊥) }
         ensures full { IsErrOf result InsertFail.Full → NoRoomForOne (F.rules self.old.rules) self.new work.now }
         ensures kept { OnErr result (Inserts F.rules id self.old self.new) }
+        ensures once { OnErr result (InsertsOnce F.rules id self.old self.new) }
         ensures same { IsErrOf result InsertFail.Stranger → self.new ≡ self.old }
     {
         self.ledger.finish(alloc, id, work, hints)

@@ -1,10 +1,19 @@
-use Rattle.std.proofs.Common.{arith, ◌≤◌, length, [], refl, ◌∙◌}
-use Rattle.fold_store.specs.Store.{IsFor, nothing}
-use Rattle.fold_store.proofs.Finishing.{finishing_start, finishing_closing, finishing_done, finishing_taken, inserts_settled, always_err, take_whole}
+use Rattle.std.proofs.Common.{◌≡◌, subst, sym, take, arith, ◌≤◌, length, [], refl, ◌∙◌}
+use Rattle.fold_store.specs.Store.{IsFor, InsertsBelow, nothing, none_behind}
+use Rattle.fold_store.proofs.Finishing.{finishing_start, finishing_closing, finishing_done, finishing_taken, inserts_settled, length_taken, once_settled, always_err, take_whole}
 use Rattle.fold_store.proofs.ledger.Ledger.finish.Goals as goal
 
 pub returns-then-not-is_for-clause-kept : goal.returns-then-not-is_for-clause-kept
 returns-then-not-is_for-clause-kept g c = nothing
+
+pub returns-then-not-is_for-clause-once : goal.returns-then-not-is_for-clause-once
+returns-then-not-is_for-clause-once g c = (0, none_behind 0)
+
+pub returns-in_err-push-clause-once : goal.returns-in_err-push-clause-once
+returns-in_err-push-clause-once g c =
+    let rules = g.F.Folding.rules in
+    let k : c.loop-child.child ≡ length (take c.loop-child.child c.args.work.now.children) = length_taken c.args.work.now.children c.loop-child.child (let n = c.children-child-end.ensures.number in omega (arith, n, c.loop-child-test.true)) in
+    always_err c.from_residual-in_err-push.result (once_settled rules c.in_ok-placed.ensures.ok (subst (λ m. InsertsBelow rules c.args.id c.args.self.now m c.loop-child.self) (sym k) c.loop-child.invariant.once))
 
 pub loop-child-init : goal.loop-child-init
 loop-child-init g c =
