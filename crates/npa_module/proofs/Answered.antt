@@ -17,7 +17,7 @@ use Rattle.npa_limits.specs.Later.{later_of}
 use Rattle.npa_limits.specs.Limits.{limit_of}
 use Rattle.npa_reading.specs.Verdicts.{stops, parsed, text_refusal as refusal_of_text}
 use Rattle.npa_module.specs.Modules.{Reads, IsRead, module_reader, text_refusal, later_refusal, limit_refusal, source_of, verdict}
-use Rattle.npa_module.specs.Forms.{IsWellFormedSource, IsPlainSource, IsNamedSource, IsWithinSource}
+use Rattle.npa_module.specs.Forms.{IsWellFormedSource, IsPlainSource, IsNamedSource, IsWithinSource, IsSmallSource}
 use Rattle.npa_module.proofs.Counting.{all_count, nodes_fit}
 use Rattle.npa_module.proofs.Words.{plain_below}
 use Rattle.npa_module.proofs.PlainModules.{source_plain}
@@ -86,6 +86,10 @@ named_answer bytes (Err e) short is = tt
 pub within_answer : (bytes : List ℕ) (result : Result Source ReadError) → length bytes ≤ 1048576 → IsRead bytes result → IfOk result IsWithinSource
 within_answer bytes (Ok source) short is = ⊎_elim (λ e. absurd (cc)) (λ reads. (reads_ruled reads short source refl).within) is
 within_answer bytes (Err e) short is = tt
+
+pub small_answer : (bytes : List ℕ) (result : Result Source ReadError) → length bytes ≤ 1048576 → IsRead bytes result → IfOk result IsSmallSource
+small_answer bytes (Ok source) short is = ⊎_elim (λ e. absurd (cc)) (λ reads. (reads_ruled reads short source refl).small) is
+small_answer bytes (Err e) short is = tt
 
 -- the refusal of a text that isn't a module is that of its reader
 pub same_refusal : (bytes : List ℕ) (fault : TextFault) → text_refusal fault ≡ refusal_of_text (module_reader bytes) fault

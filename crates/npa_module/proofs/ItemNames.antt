@@ -148,7 +148,7 @@ unfolding module_language
 starts = refl
 
 -- the pieces of an item's production
-abbrev pieces : ℕ → List GrammarPart → GrammarPart → List GrammarPart → List Piece
+abbrev pub pieces : ℕ → List GrammarPart → GrammarPart → List GrammarPart → List Piece
 pieces room front p back = map (piece room) front ++ piece room p ∷ map (piece room) back
 
 sort_body : (room : ℕ) → rules_in module_language (record { symbol = symbol.ITEM; room = room }) terminal.SORT ≡ Some (pieces room [] (one symbol.SORT_NAME) (one symbol.SEMICOLON_MARK ∷ []))

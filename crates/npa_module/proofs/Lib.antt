@@ -14,5 +14,7 @@ pub mod Answered
 pub mod NodeNames
 pub mod ItemNames
 pub mod NameTables
+pub mod SmallNodes
+pub mod SmallItems
 pub mod RuledItems
 pub mod RuledModules

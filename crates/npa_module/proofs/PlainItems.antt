@@ -68,17 +68,18 @@ pub record IsGoodAim (aim : Aim) : Type 0 where
   pub nameless : (p : Part) → Contains aim.parts p → (t : Term) → Contains (part_terms p) t → IsNameless t
   pub few : length aim.sorts ≤ 2 ^ 30
 
+-- a message is a term that was read
+pub message_term : (bytes : List ℕ) (sig : Signature) (scope : List Scoped) (raw : Raw) (t : Term) → message_read bytes sig scope raw ≡ Ok t → term_read bytes sig scope raw ≡ Ok t
+message_term bytes sig scope raw t e =
+    let b = ok_then (message bytes (out-Raw raw).head) (term_read bytes sig scope raw) t e in
+    b.is ∙ ap Ok (ok_is b.value t (ok_unless _ _ t b.gives))
+
 module _ (bytes : List ℕ) (tokens : List Token) (plain : (symbol : ℕ) (ns : List Node) → is_plain (raw_below tokens symbol ns) ≡ true) where
   -- ## Terms
 
   term_nameless : (sig : Signature) (scope : List Scoped) (symbol : ℕ) (ns : List Node) (t : Term) → term_read bytes sig scope (raw_below tokens symbol ns) ≡ Ok t → IsNameless t
   term_nameless sig scope symbol ns t e =
       nameless_read sig scope bytes (raw_below tokens symbol ns) t (plain symbol ns) (read_ok (read sig scope bytes (raw_below tokens symbol ns)) t e)
-
-  message_term : (sig : Signature) (scope : List Scoped) (raw : Raw) (t : Term) → message_read bytes sig scope raw ≡ Ok t → term_read bytes sig scope raw ≡ Ok t
-  message_term sig scope raw t e =
-      let b = ok_then (message bytes (out-Raw raw).head) (term_read bytes sig scope raw) t e in
-      b.is ∙ ap Ok (ok_is b.value t (ok_unless _ _ t b.gives))
 
   term_plain : (sig : Signature) (ns : List (List ℕ)) (ss : List ℕ) (symbol : ℕ) (nodes : List Node) (t : Term) → length ss ≤ 2 ^ 30 →
       term_read bytes sig (scope_from 0 ns ss) (raw_below tokens symbol nodes) ≡ Ok t → IsPlainTerm t
@@ -113,8 +114,8 @@ module _ (bytes : List ℕ) (tokens : List Token) (plain : (symbol : ℕ) (ns : 
       let occur : length found.sorts ≤ 0 + length words = occurring_few vars.value unbound words in
       let bound_ : length found.sorts ≤ 2 ^ 30 = omega (arith, many, first, second, less, occur, few) in
       subst IsPlainEquation (ok_is _ equation r.gives) (record {
-        left = term_plain d.sig found.names found.sorts symbol.TERM nodes l.value bound_ (message_term d.sig (scope_of found) left l.value l.is);
-        right = term_plain d.sig found.names found.sorts symbol.TERM behind_ r.value bound_ (message_term d.sig (scope_of found) right r.value r.is);
+        left = term_plain d.sig found.names found.sorts symbol.TERM nodes l.value bound_ (message_term bytes d.sig (scope_of found) left l.value l.is);
+        right = term_plain d.sig found.names found.sorts symbol.TERM behind_ r.value bound_ (message_term bytes d.sig (scope_of found) right r.value r.is);
       })
 
   -- ## A strand
@@ -123,7 +124,7 @@ module _ (bytes : List ℕ) (tokens : List Token) (plain : (symbol : ℕ) (ns : 
   event_nameless sig scope n event e =
       let m = ok_then (event_with n) _ event e in
       subst (λ (x : Event). IsNameless x.msg) (ok_is _ event m.gives)
-      (term_nameless sig scope symbol.TERM (children_of n) m.value (message_term sig scope (raw_below tokens symbol.TERM (children_of n)) m.value m.is))
+      (term_nameless sig scope symbol.TERM (children_of n) m.value (message_term bytes sig scope (raw_below tokens symbol.TERM (children_of n)) m.value m.is))
 
   pub strand_nameless : (d : Draft) (intruder : Bool) (nodes : List Node) (strand : Strand) → one_strand_read bytes tokens d intruder nodes ≡ Ok strand → (event : Event) → Contains strand.events event → IsNameless event.msg
   strand_nameless d intruder nodes strand e =
@@ -177,7 +178,7 @@ module _ (bytes : List ℕ) (tokens : List Token) (plain : (symbol : ℕ) (ns : 
         split : (b : Bool) → cond b (then_read known_part (message_read bytes d.sig scope (raw_below tokens symbol.TERM (children_of n)))) (strand_part_read bytes tokens d scope (children_of n)) ≡ Ok p → IsNamelessPart p
         split true q =
             let m = ok_then known_part _ p q in
-            let free = term_nameless d.sig scope symbol.TERM (children_of n) m.value (message_term d.sig scope (raw_below tokens symbol.TERM (children_of n)) m.value m.is) in
+            let free = term_nameless d.sig scope symbol.TERM (children_of n) m.value (message_term bytes d.sig scope (raw_below tokens symbol.TERM (children_of n)) m.value m.is) in
             subst IsNamelessPart (ok_is _ p m.gives) (λ t h. subst IsNameless (only_member m.value t h) free)
         split false q = at_nameless (children_of n) p (strand_number d.strands.names (text_of bytes (first_token tokens symbol.PART_STRAND (children_of n)))) q
 

@@ -1,5 +1,5 @@
 -- A module that is read keeps the rules on names and the limits of numbers, item by item.
-use Rattle.std.proofs.Common.{◌≡◌, ℕ, suc, ◌+◌, ◌≤◌, ◌==◌, Bool, true, false, cond, List, [], ◌∷◌, ◌++◌, None, Some, Result, Ok, codes, length, length-append, is_some, refl, ap, sym, ◌∙◌, subst, arith}
+use Rattle.std.proofs.Common.{◌≡◌, ℕ, suc, ◌+◌, ◌≤◌, ◌==◌, ◌||◌, Bool, true, false, cond, List, [], ◌∷◌, ◌++◌, None, Some, Result, Ok, codes, length, length-append, is_some, refl, ap, sym, ◌∙◌, subst, arith}
 use Rattle.std.specs.Prelude.{slice_get}
 use Rattle.std.proofs.lemmas.List.{map-append}
 use Rattle.npa_syntax.specs.declared.node.Node.{Node}
@@ -11,6 +11,7 @@ use Rattle.npa_text.specs.Languages.{module_language}
 use Rattle.npa_text.specs.Parses.{IsParse}
 use Rattle.npa_text.specs.Texts.{text_of}
 use Rattle.npa_names.specs.Names.{place_of}
+use Rattle.npa_sig.specs.declared.protocol.Equation.{Equation}
 use Rattle.npa_sig.specs.declared.protocol.Strand.{Strand}
 use Rattle.npa_sig.specs.declared.signature.OpDecl.{OpDecl}
 use Rattle.npa_sig.specs.Signature.{Signature, names_of, number_of, with_op, with_subsort, with_sort as sig_with_sort}
@@ -29,16 +30,17 @@ use Rattle.npa_module.specs.Drafts.{nothing, with_sort, with_pair, with_operator
 use Rattle.npa_module.specs.Refusals.{name_refusal}
 use Rattle.npa_module.specs.Items.{sort_named, subsort_fault, sort_read, subsort_read, op_read, operator_read, operator_declared, equation_read, one_equation_read, equation_declared, strand_read, one_strand_read, strand_declared, aim_read, one_aim_read, aim_declared, item_read, items_read}
 use Rattle.npa_module.specs.Modules.{source_of, finished}
-use Rattle.npa_sig.specs.Rules.{IsName, AreApart, IsNamedSignature, IsNamedStrand, strand_names, IsWithinOperator, IsWithinStrand}
-use Rattle.npa_model.specs.Rules.{AreNamedAims, aim_names, IsWithinAim}
-use Rattle.npa_module.specs.Forms.{IsNamedSource, IsWithinSource}
+use Rattle.npa_sig.specs.Rules.{IsName, AreApart, IsNamedSignature, IsNamedStrand, strand_names, IsWithinOperator, IsWithinStrand, IsSmallEquation, IsSmallStrand}
+use Rattle.npa_model.specs.Rules.{AreNamedAims, aim_names, IsWithinAim, IsSmallAim}
+use Rattle.npa_module.specs.Forms.{IsNamedSource, IsWithinSource, IsSmallSource}
 use Rattle.npa_module.proofs.Counting.{all_count}
 use Rattle.npa_module.proofs.Growth.{ok_unless, ok_then}
-use Rattle.npa_module.proofs.Formed.{ok_is, none_unless, untold}
+use Rattle.npa_module.proofs.Formed.{EachOf, ok_is, none_unless, untold}
 use Rattle.npa_module.proofs.FormedModules.{last_or_earlier}
 use Rattle.npa_module.proofs.PlainModules.{source_done}
 use Rattle.npa_module.proofs.ItemNames.{HasNames, all_names, protocol_named}
 use Rattle.npa_module.proofs.NameTables.{IsIn, none_more, apart_if, given_more, given_each, apart_more}
+use Rattle.npa_module.proofs.SmallItems.{IsTree, tree_kids, items_trees, terms_small, equation_small, strand_small, aim_small}
 use Rattle.npa_module.proofs.RuledItems.{operator_ruled, strand_ruled, strand_counted, aim_ruled}
 
 -- ## The module so far
@@ -59,6 +61,9 @@ record IsRuled (d : Draft) : Type 0 where
   aims : AreNamedAims d.aims.list
   aim_table : d.aims.names ≡ aim_names d.aims.list
   parts : (k : ℕ) (aim : Aim) → slice_get d.aims.list k ≡ Some aim → IsWithinAim aim
+  equations : (k : ℕ) (equation : Equation) → slice_get d.equations k ≡ Some equation → IsSmallEquation equation
+  messages : (k : ℕ) (strand : Strand) → slice_get d.strands.list k ≡ Some strand → IsSmallStrand strand
+  terms : (k : ℕ) (aim : Aim) → slice_get d.aims.list k ≡ Some aim → IsSmallAim aim
 
 built_in_apart : AreApart (codes "Msg" ∷ codes "Fresh" ∷ [])
 built_in_apart = apart_more (codes "Msg" ∷ []) (codes "Fresh") (apart_more [] (codes "Msg") (λ j k name e f. absurd (cc)) refl) refl
@@ -82,7 +87,19 @@ ruled_at_first = record {
   aims = record { names = λ k name e. absurd (cc); apart = λ j k name e f. absurd (cc) };
   aim_table = refl;
   parts = λ k aim e. absurd (cc);
+  equations = λ k equation e. absurd (cc);
+  messages = λ k strand e. absurd (cc);
+  terms = λ k aim e. absurd (cc);
 }
+
+-- one of two tests
+left_true : (a b : Bool) → a ≡ true → (a || b) ≡ true
+left_true true b e = refl
+left_true false b e = absurd (cc)
+
+either_true : (a b : Bool) → b ≡ true → (a || b) ≡ true
+either_true true b e = refl
+either_true false b e = e
 
 -- a strand has its names also where the signature has other sorts
 other_sorts : (small large : Signature) (strand : Strand) → large.ops ≡ small.ops → IsNamedStrand small strand → IsNamedStrand large strand
@@ -133,6 +150,9 @@ module _ (bytes : List ℕ) (tokens : List Token) (d e : Draft) (ruled : IsRuled
         aims = ruled.aims;
         aim_table = ruled.aim_table;
         parts = ruled.parts;
+        equations = ruled.equations;
+        messages = ruled.messages;
+        terms = ruled.terms;
       })
 
   by_subsort : (nodes : List Node) → subsort_read bytes tokens d nodes ≡ Ok e → IsRuled e
@@ -154,6 +174,9 @@ module _ (bytes : List ℕ) (tokens : List Token) (d e : Draft) (ruled : IsRuled
         aims = ruled.aims;
         aim_table = ruled.aim_table;
         parts = ruled.parts;
+        equations = ruled.equations;
+        messages = ruled.messages;
+        terms = ruled.terms;
       })
 
   by_op : (nodes : List Node) → IsName (text_of bytes (first_token tokens symbol.OPERATOR_NAME nodes)) → length (all_with symbol.ARGUMENT_SORT nodes) ≤ 16 → op_read bytes tokens d nodes ≡ Ok e → IsRuled e
@@ -186,11 +209,14 @@ module _ (bytes : List ℕ) (tokens : List Token) (d e : Draft) (ruled : IsRuled
         aims = ruled.aims;
         aim_table = ruled.aim_table;
         parts = ruled.parts;
+        equations = ruled.equations;
+        messages = ruled.messages;
+        terms = ruled.terms;
       })
 
-  by_equation : (nodes : List Node) → equation_read bytes tokens d nodes ≡ Ok e → IsRuled e
-  by_equation nodes q =
-      let o = ok_then (equation_declared d) (one_equation_read bytes tokens d nodes) e q in
+  by_equation : (n : Node) → IsTree n → IsItemWithin n → is_eq n ≡ true → equation_read bytes tokens d (children_of n) ≡ Ok e → IsRuled e
+  by_equation n tree within t q =
+      let o = ok_then (equation_declared d) (one_equation_read bytes tokens d (children_of n)) e q in
       let same : with_equation d o.value ≡ e = ok_is (with_equation d o.value) e o.gives in
       subst IsRuled same (record {
         sorts = ruled.sorts;
@@ -204,10 +230,13 @@ module _ (bytes : List ℕ) (tokens : List Token) (d e : Draft) (ruled : IsRuled
         aims = ruled.aims;
         aim_table = ruled.aim_table;
         parts = ruled.parts;
+        equations = last_or_earlier IsSmallEquation d.equations o.value ruled.equations (equation_small bytes tokens d (children_of n) o.value (terms_small n tree (within.terms (left_true (is_eq n) (is_aim n) t))) o.is);
+        messages = ruled.messages;
+        terms = ruled.terms;
       })
 
-  by_strand : (n : Node) (intruder : Bool) → HasNames bytes tokens n → IsItemWithin n → is_strand n ≡ true → strand_read bytes tokens d intruder (children_of n) ≡ Ok e → IsRuled e
-  by_strand n intruder named within t q =
+  by_strand : (n : Node) (intruder : Bool) → IsTree n → HasNames bytes tokens n → IsItemWithin n → is_strand n ≡ true → strand_read bytes tokens d intruder (children_of n) ≡ Ok e → IsRuled e
+  by_strand n intruder tree named within t q =
       let nodes = children_of n in
       let o = ok_then (strand_declared d) (one_strand_read bytes tokens d intruder (children_of n)) e q in
       let good = strand_ruled bytes tokens d intruder (children_of n) o.value (named.strand t) named.fresh named.variables (within.params t) o.is in
@@ -230,10 +259,13 @@ module _ (bytes : List ℕ) (tokens : List Token) (d e : Draft) (ruled : IsRuled
         aims = ruled.aims;
         aim_table = ruled.aim_table;
         parts = ruled.parts;
+        equations = ruled.equations;
+        messages = last_or_earlier IsSmallStrand d.strands.list o.value ruled.messages (strand_small bytes tokens d intruder (children_of n) o.value (tree_kids n tree) (within.symbols t) o.is);
+        terms = ruled.terms;
       })
 
-  by_aim : (n : Node) → HasNames bytes tokens n → IsItemWithin n → is_aim n ≡ true → aim_read bytes tokens d (children_of n) ≡ Ok e → IsRuled e
-  by_aim n named within t q =
+  by_aim : (n : Node) → IsTree n → HasNames bytes tokens n → IsItemWithin n → is_aim n ≡ true → aim_read bytes tokens d (children_of n) ≡ Ok e → IsRuled e
+  by_aim n tree named within t q =
       let o = ok_then (aim_declared d) (one_aim_read bytes tokens d (children_of n)) e q in
       let good = aim_ruled bytes tokens d (children_of n) o.value (named.aim t) (within.strand_parts t) (within.known_parts t) o.is in
       let same : with_aim d o.value ≡ e = ok_is (with_aim d o.value) e o.gives in
@@ -255,41 +287,45 @@ module _ (bytes : List ℕ) (tokens : List Token) (d e : Draft) (ruled : IsRuled
         };
         aim_table = ap (λ (ns : List (List ℕ)). ns ++ o.value.name ∷ []) ruled.aim_table ∙ sym names;
         parts = last_or_earlier IsWithinAim d.aims.list o.value ruled.parts good.within;
+        equations = ruled.equations;
+        messages = ruled.messages;
+        terms = last_or_earlier IsSmallAim d.aims.list o.value ruled.terms (aim_small bytes tokens d (children_of n) o.value (terms_small n tree (within.terms (either_true (is_eq n) (is_aim n) t))) o.is);
       })
 
   by_kind : (b1 b2 b3 b4 b5 b6 : Bool) (r1 r2 r3 r4 r5 r6 : Result Draft ReadError) →
-      (b1 ≡ true → r1 ≡ Ok e → IsRuled e) → (r2 ≡ Ok e → IsRuled e) → (b3 ≡ true → r3 ≡ Ok e → IsRuled e) → (r4 ≡ Ok e → IsRuled e) → (b5 ≡ true → r5 ≡ Ok e → IsRuled e) → (b6 ≡ true → r6 ≡ Ok e → IsRuled e) →
+      (b1 ≡ true → r1 ≡ Ok e → IsRuled e) → (r2 ≡ Ok e → IsRuled e) → (b3 ≡ true → r3 ≡ Ok e → IsRuled e) → (b4 ≡ true → r4 ≡ Ok e → IsRuled e) → (b5 ≡ true → r5 ≡ Ok e → IsRuled e) → (b6 ≡ true → r6 ≡ Ok e → IsRuled e) →
       cond b1 r1 (cond b2 r2 (cond b3 r3 (cond b4 r4 (cond b5 r5 (cond b6 r6 (Ok d)))))) ≡ Ok e → IsRuled e
   by_kind true b2 b3 b4 b5 b6 r1 r2 r3 r4 r5 r6 f1 f2 f3 f4 f5 f6 q = f1 refl q
   by_kind false true b3 b4 b5 b6 r1 r2 r3 r4 r5 r6 f1 f2 f3 f4 f5 f6 q = f2 q
   by_kind false false true b4 b5 b6 r1 r2 r3 r4 r5 r6 f1 f2 f3 f4 f5 f6 q = f3 refl q
-  by_kind false false false true b5 b6 r1 r2 r3 r4 r5 r6 f1 f2 f3 f4 f5 f6 q = f4 q
+  by_kind false false false true b5 b6 r1 r2 r3 r4 r5 r6 f1 f2 f3 f4 f5 f6 q = f4 refl q
   by_kind false false false false true b6 r1 r2 r3 r4 r5 r6 f1 f2 f3 f4 f5 f6 q = f5 refl q
   by_kind false false false false false true r1 r2 r3 r4 r5 r6 f1 f2 f3 f4 f5 f6 q = f6 refl q
   by_kind false false false false false false r1 r2 r3 r4 r5 r6 f1 f2 f3 f4 f5 f6 q = subst IsRuled (ok_is d e q) ruled
 
-  item_ruled : (n : Node) → HasNames bytes tokens n → IsItemWithin n → item_read bytes tokens d n ≡ Ok e → IsRuled e
-  item_ruled n named within q =
+  item_ruled : (n : Node) → IsTree n → HasNames bytes tokens n → IsItemWithin n → item_read bytes tokens d n ≡ Ok e → IsRuled e
+  item_ruled n tree named within q =
       by_kind (is_sort n) (kind_of n == terminal.SUBSORT) (is_op n) (is_eq n) (is_strand n) (is_aim n)
       (sort_read bytes tokens d (children_of n)) (subsort_read bytes tokens d (children_of n)) (op_read bytes tokens d (children_of n)) (equation_read bytes tokens d (children_of n))
       (strand_read bytes tokens d (kind_of n == terminal.INTRUDER) (children_of n)) (aim_read bytes tokens d (children_of n))
-      (λ t. by_sort (children_of n) (named.sort t)) (by_subsort (children_of n)) (λ t. by_op (children_of n) (named.op t) (within.args t)) (by_equation (children_of n))
-      (λ t. by_strand n (kind_of n == terminal.INTRUDER) named within t) (λ t. by_aim n named within t) q
+      (λ t. by_sort (children_of n) (named.sort t)) (by_subsort (children_of n)) (λ t. by_op (children_of n) (named.op t) (within.args t)) (λ t. by_equation n tree within t)
+      (λ t. by_strand n (kind_of n == terminal.INTRUDER) tree named within t) (λ t. by_aim n tree named within t) q
 
 -- ## The module
 
 module _ (bytes : List ℕ) (tokens : List Token) where
-  items_ruled : (ns : List Node) (d e : Draft) → ((k : ℕ) (n : Node) → slice_get ns k ≡ Some n → HasNames bytes tokens n) → ((k : ℕ) (n : Node) → slice_get ns k ≡ Some n → IsItemWithin n) →
+  items_ruled : (ns : List Node) (d e : Draft) → EachOf IsTree ns → ((k : ℕ) (n : Node) → slice_get ns k ≡ Some n → HasNames bytes tokens n) → ((k : ℕ) (n : Node) → slice_get ns k ≡ Some n → IsItemWithin n) →
       IsRuled d → items_read bytes tokens d ns ≡ Ok e → IsRuled e
-  items_ruled [] d e named within ruled q = subst IsRuled (ok_is d e q) ruled
-  items_ruled (n ∷ ns) d e named within ruled q =
+  items_ruled [] d e trees named within ruled q = subst IsRuled (ok_is d e q) ruled
+  items_ruled (n ∷ ns) d e trees named within ruled q =
       let m = ok_then (λ x. items_read bytes tokens x ns) (item_read bytes tokens d n) e q in
-      items_ruled ns m.value e (λ k x f. named (suc k) x f) (λ k x f. within (suc k) x f) (item_ruled bytes tokens d m.value ruled n (named 0 n refl) (within 0 n refl) m.is) m.gives
+      items_ruled ns m.value e trees.1 (λ k x f. named (suc k) x f) (λ k x f. within (suc k) x f) (item_ruled bytes tokens d m.value ruled n trees.0 (named 0 n refl) (within 0 n refl) m.is) m.gives
 
 -- the rules on names and the limits of numbers
 pub record IsRuledSource (source : Source) : Type 0 where
   pub named : IsNamedSource source
   pub within : IsWithinSource source
+  pub small : IsSmallSource source
 
 pub source_ruled : (bytes : List ℕ) (tokens : List Token) (nodes : List Node) (source : Source) → IsParse module_language bytes tokens nodes → all_count nodes ≤ 1048576 →
     ((symbol : ℕ) (ns : List Node) → is_plain (raw_below tokens symbol ns) ≡ true) → limit_of nodes ≡ None → source_of bytes tokens nodes ≡ Ok source → IsRuledSource source
@@ -298,7 +334,7 @@ source_ruled bytes tokens nodes source parse few words within q =
     let d = ok_then (finished name) (items_read bytes tokens nothing (items_of nodes)) source q in
     let limits = kept_limits nodes within in
     let done = source_done bytes tokens words nodes d.value few within d.is in
-    let ruled = items_ruled bytes tokens (items_of nodes) nothing d.value (all_names bytes tokens nodes parse) limits.each ruled_at_first d.is in
+    let ruled = items_ruled bytes tokens (items_of nodes) nothing d.value (items_trees bytes tokens nodes parse) (all_names bytes tokens nodes parse) limits.each ruled_at_first d.is in
     subst IsRuledSource (ok_is _ source d.gives) (record {
       named = record {
         name = protocol_named bytes tokens nodes parse;
@@ -309,4 +345,5 @@ source_ruled bytes tokens nodes source parse few words within q =
         protocol = record { sorts = done.few_sorts; ops = done.few_ops; args = ruled.args; equations = done.few_equations; strands = done.few_strands; each_strand = ruled.counted };
         aims = record { few = done.few_aims; each = ruled.parts };
       };
+      small = record { protocol = record { equations = ruled.equations; strands = ruled.messages }; aims = ruled.terms };
     })

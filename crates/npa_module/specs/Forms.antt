@@ -7,8 +7,8 @@ use Rattle.npa_model.specs.declared.aim.Aim.{Aim}
 use Rattle.npa_model.specs.WellFormed.{IsWellFormedAim, IsPlainAim}
 use Rattle.npa_sig.specs.WellFormed.{IsWellFormedProtocol, IsPlainProtocol}
 use Rattle.npa_module.specs.declared.source.Source.{Source}
-use Rattle.npa_sig.specs.Rules.{IsName, IsNamedProtocol, IsWithinProtocol}
-use Rattle.npa_model.specs.Rules.{AreNamedAims, AreWithinAims}
+use Rattle.npa_sig.specs.Rules.{IsName, IsNamedProtocol, IsWithinProtocol, IsSmallProtocol}
+use Rattle.npa_model.specs.Rules.{AreNamedAims, AreWithinAims, AreSmallAims}
 
 -- each aim is well formed
 abbrev pub AreWellFormedAims : Signature → List Strand → List Aim → Type 0
@@ -38,3 +38,9 @@ pub record IsNamedSource (source : Source) : Type 0 where
 pub record IsWithinSource (source : Source) : Type 0 where
   pub protocol : IsWithinProtocol source.protocol
   pub aims : AreWithinAims source.aims
+
+-- A side of an equation and each term of an aim have at most 1,024 symbols, and so have the messages of
+-- a strand together.
+pub record IsSmallSource (source : Source) : Type 0 where
+  pub protocol : IsSmallProtocol source.protocol
+  pub aims : AreSmallAims source.aims

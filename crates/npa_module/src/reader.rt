@@ -5,7 +5,7 @@ ghost use Rattle.npa_module.specs.Refusals.{Gives};
 ghost use Rattle.npa_module.specs.Items.{item_read, items_read};
 ghost use Rattle.npa_limits.specs.Later.{items_of};
 ghost use Rattle.npa_module.specs.Rooms.{HasRoom, HaveRoom};
-ghost use Rattle.npa_module.specs.Forms.{IsWellFormedSource, IsPlainSource, IsNamedSource, IsWithinSource};
+ghost use Rattle.npa_module.specs.Forms.{IsWellFormedSource, IsPlainSource, IsNamedSource, IsWithinSource, IsSmallSource};
 ghost use Rattle.npa_module.specs.Modules.{source_of, verdict, text_refusal, IsRead, AnswersModule};
 
 use crate::aims::add_aim;
@@ -31,7 +31,8 @@ use std::alloc::Global;
 /// what was declared earlier in the text. The variables of a strand or an aim are numbered by their
 /// places, a strand's fresh values behind them; those of an equation by their first occurrence in its
 /// sides, without those that don't occur. What is read is well formed, no fresh name stands in it, its
-/// names keep the rules on names, and it has as many parts of each kind as the limits allow.
+/// names keep the rules on names, and it has as many parts of each kind, and symbols, as the limits
+/// allow.
 pub fn read(alloc: Global, bytes: &[u8]) -> Result<Source, ReadError>
     requires { length bytes.now ≤ 1048576 }
     ensures answer { IsRead bytes.now result }
@@ -40,6 +41,7 @@ pub fn read(alloc: Global, bytes: &[u8]) -> Result<Source, ReadError>
     ensures plain { IfOk result IsPlainSource }
     ensures named { IfOk result IsNamedSource }
     ensures within { IfOk result IsWithinSource }
+    ensures small { IfOk result IsSmallSource }
 {
     match parse(alloc, &module_grammar(), bytes) {
         Ok(Parsed { tokens, nodes }) => read_nodes(alloc, bytes, &tokens, nodes.as_slice()),

@@ -17,3 +17,4 @@ pub mod Under
 pub mod SortedTerms
 pub mod Bindings
 pub mod Unnamed
+pub mod Sized

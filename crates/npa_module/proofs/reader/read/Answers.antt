@@ -3,7 +3,7 @@ use Rattle.npa_syntax.specs.Languages.{language}
 use Rattle.npa_text.specs.Languages.{module_language}
 use Rattle.npa_reading.proofs.Answering.{parsed_answer, parsed_only, stopped_answer, stopped_only}
 use Rattle.npa_module.specs.Modules.{module_reader}
-use Rattle.npa_module.proofs.Answered.{formed_answer, plain_answer, named_answer, within_answer, same_refusal}
+use Rattle.npa_module.proofs.Answered.{formed_answer, plain_answer, named_answer, within_answer, small_answer, same_refusal}
 use Rattle.npa_module.proofs.reader.read.Goals as goal
 
 pub returns-in-Ok-clause-answer : goal.returns-in-Ok-clause-answer
@@ -37,3 +37,6 @@ returns-in-Ok-clause-named c = named_answer c.args.bytes.now c.read_nodes.result
 
 pub returns-in-Ok-clause-within : goal.returns-in-Ok-clause-within
 returns-in-Ok-clause-within c = within_answer c.args.bytes.now c.read_nodes.result c.requires (returns-in-Ok-clause-answer c)
+
+pub returns-in-Ok-clause-small : goal.returns-in-Ok-clause-small
+returns-in-Ok-clause-small c = small_answer c.args.bytes.now c.read_nodes.result c.requires (returns-in-Ok-clause-answer c)
