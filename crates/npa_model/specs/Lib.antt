@@ -6,3 +6,12 @@ pub mod Accepted
 pub mod Sent
 pub mod WellFormed
 pub mod Rules
+pub mod Patterns
+pub mod Meeting
+pub mod Covering
+pub mod Backward
+pub mod Closing
+pub mod Freshness
+pub mod Asking
+pub mod Encounters
+pub mod Fitting

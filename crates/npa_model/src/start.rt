@@ -151,7 +151,7 @@ fn is_own_form(alloc: Global, th: &Theory, t: &Term) -> Result<bool, NoMemory>
 }
 
 // The sort of the parameter at a place.
-fn param_sort(strand: &Strand, p: usize) -> u16
+pub(crate) fn param_sort(strand: &Strand, p: usize) -> u16
     requires { p < length (param_sorts strand.now) }
     ensures { result ≡ slice_index (param_sorts strand.now) p }
 {
