@@ -1,0 +1,11 @@
+pub mod Narrowable
+pub mod Originating
+pub mod Origination
+pub mod Origins
+pub mod Ready
+pub mod Rows
+pub mod Search
+pub mod StrandVariants
+pub mod Strands
+pub mod Told
+pub mod Variants
