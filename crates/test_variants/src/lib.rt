@@ -1,0 +1,9 @@
+//! Tests of the variants of strands, over public calls.
+#![tactic(auto)]
+
+#[cfg(test)]
+mod counting;
+#[cfg(test)]
+mod finding;
+#[cfg(test)]
+mod printing;
