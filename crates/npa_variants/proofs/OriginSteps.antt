@@ -99,5 +99,5 @@ row_split marks strand row behind_ fresh messages own count own_is behind_is cou
     ∙ ap (λ ts. find (fails_in marks strand.events (drop (length strand.vars) (take (length (param_sorts strand)) row)) ts) (flat_map variables row)) sent
 
 pub fault_step : (marks : List Bool) (m : ℕ) (strand : Strand) (vs : List Variant) (i : ℕ) (v : Variant) → i < length vs → v ≡ get_or vs i v →
-    origin_fault marks m strand i (map (λ w. w.terms) (drop i vs)) ≡ at_variant i (row_fault marks m strand v.terms) (origin_fault marks m strand (i + 1) (map (λ w. w.terms) (drop (i + 1) vs)))
+    origin_fault marks m strand i (map (λ w. w.terms) (drop i vs)) ≡ at_variant i v.terms (row_fault marks m strand v.terms) (origin_fault marks m strand (i + 1) (map (λ w. w.terms) (drop (i + 1) vs)))
 fault_step marks m strand vs i v small is = ap (λ ws. origin_fault marks m strand i (map (λ w. w.terms) ws)) (rest_at vs i v small is)

@@ -172,14 +172,14 @@ module _ (sig : Signature) (marks : List Bool) (are : AreCarriers sig marks) (m 
   pub row_originating : (row : Row) → (row_fault marks m strand row ≡ None) ↔ Originates sig m strand row
   row_originating row = (row_sound row, row_complete row)
 
-  at_none : (j : ℕ) (o : Option Variable) (later : Option (ℕ × Variable)) → at_variant j o later ≡ None → (o ≡ None) × (later ≡ None)
-  at_none j None later e = (refl, e)
-  at_none j (Some v) later e = cc
+  at_none : (j : ℕ) (row : Row) (o : Option Variable) (later : Option (ℕ × Variable)) → at_variant j row o later ≡ None → (o ≡ None) × (later ≡ None)
+  at_none j row None later e = (refl, e)
+  at_none j row (Some v) later e = cc
 
   rows_sound : (j : ℕ) (rows : List Row) → origin_fault marks m strand j rows ≡ None → (row : Row) → Contains rows row → Originates sig m strand row
   rows_sound j [] e row c = absurd (none_there row c)
   rows_sound j (r ∷ rs) e row c =
-      let both = at_none j (row_fault marks m strand r) (origin_fault marks m strand (j + 1) rs) e in
+      let both = at_none j r (row_fault marks m strand r) (origin_fault marks m strand (j + 1) rs) e in
       elim (member_cases r row rs c) [
         | inl s ↦ subst (Originates sig m strand) s (row_sound r both.0)
         | inr d ↦ rows_sound (j + 1) rs both.1 row d
@@ -188,7 +188,7 @@ module _ (sig : Signature) (marks : List Bool) (are : AreCarriers sig marks) (m 
   rows_complete : (j : ℕ) (rows : List Row) → ((row : Row) → Contains rows row → Originates sig m strand row) → origin_fault marks m strand j rows ≡ None
   rows_complete j [] each = refl
   rows_complete j (r ∷ rs) each =
-      ap (λ o. at_variant j o (origin_fault marks m strand (j + 1) rs)) (row_complete r (each r (here r rs)))
+      ap (λ o. at_variant j r o (origin_fault marks m strand (j + 1) rs)) (row_complete r (each r (here r rs)))
       ∙ rows_complete (j + 1) rs (λ row c. each row (behind r row rs c))
 
   -- no row has a fault exactly where each originates

@@ -122,7 +122,7 @@ found_few th strand list found =
 pub fault_within : (marks : List Bool) (m : ℕ) (strand : Strand) (j : ℕ) (rows : List Row) (f : ℕ × Variable) → origin_fault marks m strand j rows ≡ Some f → f.0 < j + length rows
 fault_within marks m strand j [] f e = cc
 fault_within marks m strand j (row ∷ rows) f e =
-    elim (row_fault marks m strand row) as (λ o. at_variant j o (origin_fault marks m strand (j + 1) rows) ≡ Some f → f.0 < j + suc (length rows)) [
+    elim (row_fault marks m strand row) as (λ o. at_variant j row o (origin_fault marks m strand (j + 1) rows) ≡ Some f → f.0 < j + suc (length rows)) [
       | None ↦ λ d. let rest = fault_within marks m strand (j + 1) rows f d in omega (arith, rest)
       | Some v ↦ λ d. let same : j ≡ f.0 = ap (number_of j) d in omega (arith, same)
     ] e

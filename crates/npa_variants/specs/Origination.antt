@@ -4,8 +4,9 @@ use Rattle.std.specs.Prelude.{◌≡◌, ◌<◌, ◌⊎◌, ℕ, ◌+◌, Bool,
 use Rattle.std.specs.List.{flat_map}
 use Rattle.npa_term.specs.declared.term.Var.{Var as Variable}
 use Rattle.npa_term.specs.declared.term.Term.{Term}
-use Rattle.npa_term.specs.declared.term.Term.TheVariants.{Var, Name}
-use Rattle.npa_term.specs.Numbering.{is_listed}
+use Rattle.npa_term.specs.declared.term.Term.TheVariants.{Var, Name, App'}
+use Rattle.npa_term.specs.Bound.{value_of}
+use Rattle.npa_term.specs.Numbering.{is_listed, numbering}
 use Rattle.npa_term.specs.Parts.{IsPart}
 use Rattle.npa_term.specs.Variables.{variables}
 use Rattle.npa_sig.specs.declared.protocol.Event.{Event}
@@ -57,12 +58,23 @@ is_unoriginated marks m strand row v =
 abbrev pub row_fault : List Bool → ℕ → Strand → Row → Option Variable
 row_fault marks m strand row = find (is_unoriginated marks m strand row) (flat_map variables row)
 
+-- The variable of a row with the number that it has in the order in which the variables of the row first
+-- occur, from 0: the row is in canonical form, so its variables may have other numbers.
+abbrev pub bound_to : Variable → Option Term → Variable
+bound_to v (Some (Var w)) = w
+bound_to v (Some (Name n)) = v
+bound_to v (Some (App' op n ts)) = v
+bound_to v None = v
+
+abbrev pub in_order : Row → Variable → Variable
+in_order row v = bound_to v (value_of (numbering row) v)
+
 -- The first row, numbered from `j`, that has such a variable, with the first one.
-abbrev pub at_variant : ℕ → Option Variable → Option (ℕ × Variable) → Option (ℕ × Variable)
-at_variant j None later = later
-at_variant j (Some v) later = Some (j, v)
+abbrev pub at_variant : ℕ → Row → Option Variable → Option (ℕ × Variable) → Option (ℕ × Variable)
+at_variant j row None later = later
+at_variant j row (Some v) later = Some (j, in_order row v)
 
 abbrev pub origin_fault : List Bool → ℕ → Strand → ℕ → List Row → Option (ℕ × Variable)
 origin_fault marks m strand j [] = None
 origin_fault marks m strand j (row ∷ rows) =
-    at_variant j (row_fault marks m strand row) (origin_fault marks m strand (j + 1) rows)
+    at_variant j row (row_fault marks m strand row) (origin_fault marks m strand (j + 1) rows)

@@ -14,7 +14,8 @@ pub enum ReadyFail {
     /// A term has more than 1,024 symbols, so many.
     #[error("strand {strand} makes a term of {value} symbols")]
     Symbols { strand: u16, value: u64 },
-    /// In this variant of the strand, the variable doesn't originate.
+    /// In this variant of the strand, the variable doesn't originate. Its number is the one that it has in
+    /// the order in which variables first occur in the variant's terms, from 0.
     #[error("a variable of strand {strand} doesn't originate")]
     Origin { strand: u16, variant: u16, var: Var },
     #[error("out of memory")]

@@ -1,35 +1,50 @@
-ghost use Rattle.std.specs.Prelude.{◌≡◌, find, flat_map, get_or, length, map, false};
+ghost use Rattle.std.specs.Prelude.{◌≡◌, IfOk, find, flat_map, get_or, length, map, false};
 ghost use Rattle.npa_term.specs.Computed.{is_same};
 ghost use Rattle.npa_term.specs.Numbering.{is_listed};
 ghost use Rattle.npa_term.specs.Variables.{variables};
 ghost use Rattle.npa_term.specs.declared.term.Term.TheVariants.{Var as Variable};
 ghost use Rattle.npa_sig.specs.Parameters.{param_sorts};
-ghost use Rattle.npa_variants.specs.Origination.{is_received, origin_fault, row_fault};
+ghost use Rattle.npa_variants.specs.Origination.{in_order, is_received, origin_fault, row_fault};
 ghost use Rattle.npa_variants.specs.Origins.{fails_in, originates_in};
 ghost use Rattle.npa_variants.specs.Rows.{is_among};
 
 use crate::variant::Variant;
 use npa_sig::{Event, Strand};
-use npa_term::{Term, Var};
+use npa_term::{NoMemory, Term, Var, numbering};
+use std::alloc::Global;
 
 /// The first of the variants, counted from 0, in whose messages a variable doesn't originate: it is no
 /// value of a fresh parameter, its sort carries names, and it doesn't occur first in a received
-/// message. With it comes the first such variable, in the order of the values and then the messages.
-/// The variants are of the strand's parameters and then its messages. It takes no memory.
+/// message. With it comes the first such variable, in the order of the values and then the messages,
+/// with its number in that order. The variants are of the strand's parameters and then its messages.
 pub(crate) fn origin_fault(
+    alloc: Global,
     marks: &[bool],
     strand: &Strand,
     variants: &[Variant],
-) -> Option<(usize, Var)>
-    ensures { result ≡ origin_fault marks.now (length (param_sorts strand.now)) strand.now 0
-        (map (λ v. v.terms) variants.now) }
+) -> Result<Option<(usize, Var)>, NoMemory>
+    ensures { IfOk result (λ fault. fault
+        ≡ origin_fault marks.now (length (param_sorts strand.now)) strand.now 0
+        (map (λ v. v.terms) variants.now)) }
 {
     for at in 0..variants.len() {
-        if let Some(var) = row_fault(marks, strand, variants[at].terms.as_slice()) {
-            return Some((at, var));
+        let row = variants[at].terms.as_slice();
+        if let Some(var) = row_fault(marks, strand, row) {
+            return Ok(Some((at, in_order(alloc, row, var)?)));
         }
     }
-    None
+    Ok(None)
+}
+
+// The variable of a row with its number in the order in which the variables of the row first occur.
+fn in_order(alloc: Global, row: &[Term], var: Var) -> Result<Var, NoMemory>
+    ensures { IfOk result (λ v. v ≡ in_order row.now var) }
+{
+    let numbers = numbering(alloc, row)?;
+    match numbers.get(var) {
+        Some(Term::Var(v)) => Ok(*v),
+        _ => Ok(var),
+    }
 }
 
 // The first variable of a row that occurs in a message and doesn't originate.

@@ -81,12 +81,14 @@ impl Ready {
             Err(fail) => return Err(fail),
         };
         let marks = carriers(alloc, &protocol.sig)?;
-        match check_origins(
+        let origins = check_origins(
+            alloc,
             &marks,
             &theory,
             protocol.strands.as_slice(),
             lists.as_slice(),
-        ) {
+        )?;
+        match origins {
             Some(fail) => Err(fail),
             None => Ok(Ready {
                 protocol,
@@ -209,23 +211,25 @@ fn variants_of(
 
 // Looks in the lists of variants of strands for the first variable that doesn't originate.
 fn check_origins(
+    alloc: Global,
     marks: &[bool],
     th: &Theory,
     strands: &[Strand],
     lists: &[Variants],
-) -> Option<ReadyFail>
+) -> Result<Option<ReadyFail>, NoMemory>
     requires few { length strands.now < 65535 }
     requires found { AreFound th.now strands.now lists.now }
-    ensures { result ≡ lists_fault marks.now 0 strands.now lists.now }
+    ensures { IfOk result (λ fault. fault ≡ lists_fault marks.now 0 strands.now lists.now) }
 {
     for at in 0..strands.len() {
-        if let Some((variant, var)) = origin_fault(marks, &strands[at], lists[at].as_slice()) {
-            return Some(ReadyFail::Origin {
+        let fault = origin_fault(alloc, marks, &strands[at], lists[at].as_slice())?;
+        if let Some((variant, var)) = fault {
+            return Ok(Some(ReadyFail::Origin {
                 strand: at as u16,
                 variant: variant as u16,
                 var,
-            });
+            }));
         }
     }
-    None
+    Ok(None)
 }
