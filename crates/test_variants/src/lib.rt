@@ -7,3 +7,5 @@ mod counting;
 mod finding;
 #[cfg(test)]
 mod printing;
+#[cfg(test)]
+mod readying;
