@@ -68,8 +68,11 @@ fn put_numbers(word: &[u8], first: u64, second: u64, out: &mut Vec<u8>) -> Resul
 fn put_counts(ready: &Ready, out: &mut Vec<u8>) -> Result<(), Fail> {
     out.extend_from_slice(b"ready")?;
     for i in 0..ready.protocol().strands.len() {
+        let Ok(strand) = u16::try_from(i) else {
+            return Err(Fail::new("too many strands"));
+        };
         out.push(b' ')?;
-        put_number(out, ready.strand_variants(i as u16).len() as u64)?;
+        put_number(out, ready.strand_variants(strand).len() as u64)?;
     }
     Ok(())
 }
@@ -81,12 +84,12 @@ fn made(alloc: Global, items: &str) -> Result<Result<Ready, ReadyFail>, Fail> {
     if text.len() > MOST_BYTES {
         return Err(Fail::new("a long text"));
     }
-    let protocol = read(alloc, text.as_slice())?.protocol;
-    let th = Theory::of(alloc, &protocol)?;
-    if convergent(alloc, &th).is_err() {
-        return Err(Fail::new("a theory that isn't convergent"));
+    let source = read(alloc, text.as_slice())?;
+    let th = Theory::of(alloc, &source.protocol)?;
+    match convergent(alloc, &th) {
+        Ok(()) => Ok(Ready::make(alloc, source.protocol)),
+        Err(_) => Err(Fail::new("a theory that isn't convergent")),
     }
-    Ok(Ready::make(alloc, protocol))
 }
 
 /// Whether the protocols of modules are ready.
