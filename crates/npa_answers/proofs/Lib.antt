@@ -1,2 +1,4 @@
-pub mod OneModule
+pub mod Sources
+pub mod Aims
+pub mod Statuses
 pub mod Showing

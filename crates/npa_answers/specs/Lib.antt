@@ -1,4 +1,4 @@
 pub mod Commands
-pub mod Judging
 pub mod Lines
+pub mod Modules
 pub mod Answers

@@ -1,12 +1,9 @@
--- The printed lines where a file holds no module that passes, or the module no such aim.
+-- The printed lines where a file holds no module, or the module no such aim.
 use Rattle.std.specs.Prelude.{ℕ, List, ◌++◌, Option, None, Some, codes}
 use Rattle.npa_limits.specs.Limits.{word_of_part}
 use Rattle.npa_module.specs.declared.source.ReadError.{ReadError}
 use Rattle.npa_module.specs.declared.source.ReadError.TheVariants as read_error
-use Rattle.npa_outside.specs.Lines.{at_place, at_word, counted, limit_bytes}
-use Rattle.npa_checks.specs.Lines.{fault_line}
-use Rattle.npa_answers.specs.declared.judging.Stop.{Stop}
-use Rattle.npa_answers.specs.declared.judging.Stop.TheVariants as stop
+use Rattle.npa_outside.specs.Lines.{at_place, at_word, counted}
 
 -- the text and the status where a module text is refused
 abbrev pub refusal : ReadError → Option (List ℕ × ℕ)
@@ -17,11 +14,6 @@ refusal (read_error.Name name line col) = Some (at_word (codes "refused name ") 
 refusal (read_error.Sort name line col) = Some (at_word (codes "refused sort ") name line col, 3)
 refusal read_error.NoMemory = None
 
--- The text and the status where a module file isn't one that passes; there are none for want of memory.
-abbrev pub stop_line : Stop → Option (List ℕ × ℕ)
-stop_line stop.TooLong = Some (limit_bytes, 7)
-stop_line (stop.Refused error) = refusal error
-stop_line (stop.Failed source fault) = fault_line source fault
-
+-- the text where a module has no such aim
 abbrev pub refused_no_aim : List ℕ → List ℕ
 refused_no_aim word = codes "refused no aim " ++ (word ++ codes "\n")

@@ -3,10 +3,12 @@
 //! the text and status that come of it.
 #![tactic(auto)]
 
+mod checking;
 mod commands;
-mod judging;
 mod lines;
+mod loading;
 mod program;
+mod replaying;
 
 pub use commands::{Command, read_command};
 pub use program::{Ended, npa_plain};

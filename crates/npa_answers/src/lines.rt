@@ -1,9 +1,8 @@
 ghost use Rattle.std.specs.Prelude.{◌≡◌, Some, IfOk};
 ghost use Rattle.npa_answers.specs.Commands.{usage_line};
-ghost use Rattle.npa_answers.specs.Lines.{refusal, refused_no_aim, stop_line};
+ghost use Rattle.npa_outside.specs.Lines.{limit_bytes};
+ghost use Rattle.npa_answers.specs.Lines.{refusal, refused_no_aim};
 
-use crate::judging::Stop;
-use npa_checks::fault_line;
 use npa_module::ReadError;
 use npa_outside::{LIMIT_BYTES, Printed, put_counted, put_place, put_word, told};
 use npa_term::NoMemory;
@@ -22,19 +21,16 @@ pub(crate) fn usage(alloc: Global) -> Result<Printed, AllocError>
     told(alloc, USAGE, 2)
 }
 
-/// The line for a file that holds no module that passes; there is none for want of memory.
-pub(crate) fn stopped(alloc: Global, stop: &Stop) -> Result<Printed, NoMemory>
-    ensures { IfOk result (λ a. stop_line stop.now ≡ Some (a.text.items, a.status)) }
+/// The line for a file that is too long.
+pub(crate) fn too_long(alloc: Global) -> Result<Printed, AllocError>
+    ensures text { IfOk result (λ a. a.text.items ≡ limit_bytes) }
+    ensures status { IfOk result (λ a. a.status ≡ 7) }
 {
-    match stop {
-        Stop::TooLong => Ok(told(alloc, LIMIT_BYTES, 7)?),
-        Stop::Refused(error) => refusal(alloc, error),
-        Stop::Failed(source, fault) => fault_line(alloc, source, fault),
-    }
+    told(alloc, LIMIT_BYTES, 7)
 }
 
-// The line for a module text that is refused; there is none for want of memory.
-fn refusal(alloc: Global, error: &ReadError) -> Result<Printed, NoMemory>
+/// The line for a module text that is refused; there is none for want of memory.
+pub(crate) fn refusal(alloc: Global, error: &ReadError) -> Result<Printed, NoMemory>
     ensures { IfOk result (λ a. refusal error.now ≡ Some (a.text.items, a.status)) }
 {
     let mut text = Vec::new(alloc);

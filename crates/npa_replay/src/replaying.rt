@@ -1,5 +1,6 @@
 ghost use Rattle.std.specs.Prelude.{◌≡◌, ◌<◌, ◌^◌, [], length, IfOk};
 ghost use Rattle.npa_rewrite.specs.Rewriting.{AllCancel, IsConvergent};
+ghost use Rattle.npa_rewrite.specs.Theories.{theory_of};
 ghost use Rattle.npa_model.specs.Accepted.{IsAccepted};
 ghost use Rattle.npa_model.specs.WellFormed.{IsWellFormedAim, IsWellFormedRun};
 ghost use Rattle.npa_sig.specs.WellFormed.{IsWellFormedProtocol};
@@ -15,17 +16,30 @@ use npa_model::{Aim, Run, RunState};
 use npa_rewrite::Theory;
 use npa_sig::Protocol;
 use npa_term::NoMemory;
+use npa_variants::Ready;
 use std::alloc::Global;
 
-/// Replays a run against an aim, modulo the equations of a theory. The instances are judged first,
+/// Replays a run against an aim, modulo the equations of a protocol. The instances are judged first,
 /// then each step of the schedule, then the parts of the aim, each in its order; the first fault is
 /// answered. A part is missed where no normal ground terms for the aim's variables and no choice of
 /// different instances meet it beside the parts before it. A run that reaches the aim, breaks or
 /// misses a part does just one of these.
 ///
-/// The theory is convergent, so that each term has one normal form, and the aim is accepted, so that
-/// its instances by normal terms are normal and can be found by matching.
-pub fn replay(
+/// The protocol is ready, so that its equations give each term one normal form, and the aim is
+/// accepted, so that its instances by normal terms are normal and can be found by matching.
+pub fn replay(alloc: Global, ready: &Ready, aim: &Aim, run: &Run) -> Result<Replay, NoMemory>
+    requires aim { IsWellFormedAim ready.now.sig ready.now.strands aim.now }
+    requires accepted { IsAccepted (theory_of ready.now) aim.now }
+    requires run { IsWellFormedRun ready.now.sig run.now }
+    ensures answer { IfOk result (λ answer. OfNormalForms (theory_of ready.now) (λ nf. IsTrueOf nf ready.now aim.now run.now answer)) }
+    ensures only { IfOk result (λ answer. OfNormalForms (theory_of ready.now) (λ nf. (other : Replay) → IsTrueOf nf ready.now aim.now run.now other → other ≡ answer)) }
+{
+    ready.laws();
+    replayed(alloc, ready.theory(), ready.protocol(), aim, run)
+}
+
+// Replays a run of a protocol whose theory is convergent.
+fn replayed(
     alloc: Global,
     th: &Theory,
     protocol: &Protocol,

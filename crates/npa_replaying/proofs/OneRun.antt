@@ -1,23 +1,23 @@
 -- One text and one status follow from a run's file, where what it holds is known.
-use Rattle.std.proofs.Common.{◌≡◌, ℕ, List, Option, Some, Result, Ok, Err, refl, sym, ap, subst, ◌∙◌}
+use Rattle.std.proofs.Common.{◌≡◌, ℕ, List, Option, Some, Result, Ok, Err, refl, sym, ap, subst, ◌∙◌, ◌≤◌, length, arith}
 use Rattle.std.specs.Prelude.{IfOk}
 use Rattle.npa_term.specs.declared.error.NoMemory.{NoMemory}
 use Rattle.npa_sig.specs.declared.protocol.Protocol.{Protocol}
-use Rattle.npa_rewrite.specs.declared.theory.Theory.{Theory}
+use Rattle.npa_sig.specs.WellFormed.{IsPlainProtocol}
 use Rattle.npa_rewrite.specs.Innermost.{normalized}
 use Rattle.npa_rewrite.specs.Rewriting.{AllCancel, IsConvergent}
 use Rattle.npa_rewrite.proofs.Normalized.{gives_forms}
 use Rattle.npa_model.specs.declared.aim.Aim.{Aim}
 use Rattle.npa_model.specs.declared.run.Run.{Run}
+use Rattle.npa_model.specs.WellFormed.{IsWellFormedRun}
 use Rattle.npa_replay.specs.declared.answer.Replay.{Replay}
-use Rattle.npa_replay.specs.Replays.{IsTrueOf, OfNormalForms}
 use Rattle.npa_outside.specs.declared.lines.Printed.{Printed}
 use Rattle.npa_outside.specs.declared.loading.Loaded.{Loaded}
 use Rattle.npa_outside.specs.declared.loading.Loaded.TheVariants as loaded
 use Rattle.npa_outside.specs.Lines.{limit_bytes}
-use Rattle.npa_outside.specs.Loads.{LoadsText, LoadsTextAlone, IsLoaded, OnTooLong}
+use Rattle.npa_outside.specs.Loads.{LoadsText, LoadsTextAlone, IsLoaded, IfRead, OnTooLong}
 use Rattle.npa_outside.specs.Outside.{Outside, whatever_rose, IsOnly, IsTold}
-use Rattle.npa_outside.proofs.FileLoads.{is_loaded, only_loaded, moved}
+use Rattle.npa_outside.proofs.FileLoads.{is_loaded, only_loaded, moved, if_read}
 use Rattle.npa_run_text.specs.declared.fault.RunTextFail.{RunTextFail}
 use Rattle.npa_run_text.specs.RunTexts.{ReadsRun}
 use Rattle.npa_replaying.specs.Lines.{invalid, answer_text, answer_status}
@@ -36,29 +36,34 @@ only_replayed protocol aim run answer text status cancel convergent one t s = λ
     let same = one (normalized th) gives r.answer (r.is_true (normalized th) gives) in
     (r.text_is ∙ ap (answer_text protocol run) same ∙ sym t, r.status_is ∙ ap answer_status same ∙ sym s)
 
-pub same_theory : (th : Theory) (protocol : Protocol) → th.sig ≡ protocol.sig → th.equations ≡ protocol.equations → th ≡ theory_of protocol
-same_theory th protocol a b = λ i. record { sig = a i; equations = b i }
-
-module _ (th : Theory) (protocol : Protocol) (same : th ≡ theory_of protocol) (aim : Aim) (run : Run) (answer : Replay) where
+module _ (protocol seen : Protocol) (same : seen ≡ protocol) (aim : Aim) (run : Run) (answer : Replay) where
   -- the text for a true answer
-  pub is_replayed : (r : Result Printed NoMemory) → OfNormalForms th (λ nf. IsTrueOf nf protocol aim run answer) →
-      IfOk r (λ a. a.text.items ≡ answer_text protocol run answer) → IfOk r (λ a. a.status ≡ answer_status answer) → IfOk r (λ a. Replayed protocol aim run a.text.items a.status)
+  pub is_replayed : (r : Result Printed NoMemory) → IsTrueAnswer protocol aim run answer →
+      IfOk r (λ a. a.text.items ≡ answer_text seen run answer) → IfOk r (λ a. a.status ≡ answer_status answer) → IfOk r (λ a. Replayed protocol aim run a.text.items a.status)
   is_replayed (Ok a) true_of t s = record {
     answer = answer;
-    is_true = subst (λ (x : Theory). OfNormalForms x (λ nf. IsTrueOf nf protocol aim run answer)) same true_of;
-    text_is = t;
+    is_true = true_of;
+    text_is = t ∙ ap (λ (p : Protocol). answer_text p run answer) same;
     status_is = s;
   }
   is_replayed (Err e) true_of t s = tt
 
   -- and no other
-  pub is_only : (r : Result Printed NoMemory) → AllCancel (theory_of protocol) → IsConvergent (theory_of protocol) → OfNormalForms th (λ nf. (other : Replay) → IsTrueOf nf protocol aim run other → other ≡ answer) →
-      IfOk r (λ a. a.text.items ≡ answer_text protocol run answer) → IfOk r (λ a. a.status ≡ answer_status answer) →
+  pub is_only : (r : Result Printed NoMemory) → AllCancel (theory_of protocol) → IsConvergent (theory_of protocol) → IsOnlyAnswer protocol aim run answer →
+      IfOk r (λ a. a.text.items ≡ answer_text seen run answer) → IfOk r (λ a. a.status ≡ answer_status answer) →
       IfOk r (λ a. IsOnly (Replayed protocol aim run) a.text.items a.status)
   is_only (Ok a) cancel convergent one t s =
-      only_replayed protocol aim run answer a.text.items a.status cancel convergent
-      (subst (λ (x : Theory). OfNormalForms x (λ nf. (other : Replay) → IsTrueOf nf protocol aim run other → other ≡ answer)) same one) t s
+      only_replayed protocol aim run answer a.text.items a.status cancel convergent one (t ∙ ap (λ (p : Protocol). answer_text p run answer) same) s
   is_only (Err e) cancel convergent one t s = tt
+
+-- ## The protocol that is read by
+
+pub few_strands : (protocol seen : Protocol) → seen ≡ protocol → IsPlainProtocol protocol → length seen.strands ≤ 65535
+few_strands protocol seen same plain = subst (λ (p : Protocol). length p.strands ≤ 65535) (sym same) (let few = plain.few_strands in omega (arith, few))
+
+pub form_read : (protocol seen : Protocol) → seen ≡ protocol → (found : Loaded Run RunTextFail) (run : Run) → found ≡ loaded.Read run →
+    IfRead found (IsWellFormedRun seen.sig) → IsWellFormedRun protocol.sig run
+form_read protocol seen same found run e form = subst (λ (p : Protocol). IsWellFormedRun p.sig run) same (if_read found (IsWellFormedRun seen.sig) run form e)
 
 -- ## A run's file
 

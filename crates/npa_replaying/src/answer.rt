@@ -1,9 +1,7 @@
 ghost use Rattle.std.specs.Prelude.{◌≡◌, ◌≤◌, ℕ, List, length, IfOk, IfSome};
 ghost use Rattle.std.specs.Result.{IsErrOf};
 ghost use Rattle.npa_text.specs.Counts.{Rose};
-ghost use Rattle.npa_rewrite.specs.Rewriting.{AllCancel, IsConvergent};
 ghost use Rattle.npa_rewrite.specs.Theories.{theory_of};
-ghost use Rattle.npa_sig.specs.WellFormed.{IsWellFormedProtocol};
 ghost use Rattle.npa_model.specs.Accepted.{IsAccepted};
 ghost use Rattle.npa_model.specs.WellFormed.{IsWellFormedAim, IsWellFormedRun};
 ghost use Rattle.npa_run_text.specs.RunTexts.{ReadsRun};
@@ -15,11 +13,11 @@ use crate::lines::{answered, invalid};
 use npa_model::{Aim, Run};
 use npa_outside::{Halt, LIMIT_BYTES, Loaded, Printed, load, told};
 use npa_replay::replay;
-use npa_rewrite::Theory;
 use npa_run_text::{RunTextFail, read_run};
 use npa_sig::Protocol;
 use npa_term::NoMemory;
 use npa_text::Files;
+use npa_variants::Ready;
 use std::alloc::Global;
 
 /// The text and the status that follow from the file of a run: its length, its text, and then what
@@ -28,22 +26,19 @@ pub fn run_answer<F: Files>(
     alloc: Global,
     files: &mut F,
     name: &str,
-    protocol: &Protocol,
+    ready: &Ready,
     aim: &Aim,
 ) -> Result<Printed, Halt>
-    requires protocol { IsWellFormedProtocol protocol.now }
-    requires few { length protocol.now.strands ≤ 65535 }
-    requires cancelling { AllCancel (theory_of protocol.now) }
-    requires convergent { IsConvergent (theory_of protocol.now) }
-    requires aim { IsWellFormedAim protocol.now.sig protocol.now.strands aim.now }
-    requires accepted { IsAccepted (theory_of protocol.now) aim.now }
+    requires aim { IsWellFormedAim ready.now.sig ready.now.strands aim.now }
+    requires accepted { IsAccepted (theory_of ready.now) aim.now }
     ensures shown { IfOk result (λ a. IsForRun
         (counted (F.holds files.old) (F.longs files.old) (F.longs files.new) (F.faults files.old) (F.faults files.new))
-        name.now protocol.now aim.now a.text.items a.status) }
+        name.now ready.now aim.now a.text.items a.status) }
     ensures fault { IsErrOf result Halt.Fault → Rose (F.faults files.old name.now) (F.faults files.new name.now) }
 {
-    match load_run(alloc, files, name, protocol)? {
-        Loaded::Read(run) => Ok(replayed(alloc, protocol, aim, &run)?),
+    ready.laws();
+    match load_run(alloc, files, name, ready.protocol())? {
+        Loaded::Read(run) => Ok(replayed(alloc, ready, aim, &run)?),
         Loaded::TooLong => Ok(told(alloc, LIMIT_BYTES, 7)?),
         Loaded::Refused(fail) => Ok(invalid(alloc, &fail)?),
     }
@@ -78,17 +73,14 @@ fn load_run<F: Files>(
 }
 
 // The text for what comes of a run.
-fn replayed(alloc: Global, protocol: &Protocol, aim: &Aim, run: &Run) -> Result<Printed, NoMemory>
-    requires protocol { IsWellFormedProtocol protocol.now }
-    requires cancelling { AllCancel (theory_of protocol.now) }
-    requires convergent { IsConvergent (theory_of protocol.now) }
-    requires aim { IsWellFormedAim protocol.now.sig protocol.now.strands aim.now }
-    requires accepted { IsAccepted (theory_of protocol.now) aim.now }
-    requires run { IsWellFormedRun protocol.now.sig run.now }
-    ensures replayed { IfOk result (λ a. Replayed protocol.now aim.now run.now a.text.items a.status) }
-    ensures only { IfOk result (λ a. IsOnly (Replayed protocol.now aim.now run.now) a.text.items a.status) }
+fn replayed(alloc: Global, ready: &Ready, aim: &Aim, run: &Run) -> Result<Printed, NoMemory>
+    requires aim { IsWellFormedAim ready.now.sig ready.now.strands aim.now }
+    requires accepted { IsAccepted (theory_of ready.now) aim.now }
+    requires run { IsWellFormedRun ready.now.sig run.now }
+    ensures replayed { IfOk result (λ a. Replayed ready.now aim.now run.now a.text.items a.status) }
+    ensures only { IfOk result (λ a. IsOnly (Replayed ready.now aim.now run.now) a.text.items a.status) }
 {
-    let th = Theory::of(alloc, protocol)?;
-    let answer = replay(alloc, &th, protocol, aim, run)?;
-    answered(alloc, protocol, run, &answer)
+    ready.laws();
+    let answer = replay(alloc, ready, aim, run)?;
+    answered(alloc, ready.protocol(), run, &answer)
 }

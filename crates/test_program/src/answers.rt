@@ -174,6 +174,19 @@ impl Answers for Modules {
     }
 }
 
+/// The answers of `check` for modules: a row gives what stands behind the head.
+#[derive(Drop)]
+pub(crate) struct Checks {
+    pub(crate) head: &'static str,
+}
+
+impl Answers for Checks {
+    fn answer(&self, alloc: Global, given: &str, out: &mut Vec<u8>) -> Result<(), Fail> {
+        let module = format!(in alloc; "{}{given}", self.head)?;
+        sound_answer(alloc, "check m", module.as_bytes(), RUN.as_bytes(), out)
+    }
+}
+
 /// The answers for words of the command line, over one module and one run.
 #[derive(Drop)]
 pub(crate) struct Commands {

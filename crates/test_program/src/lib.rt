@@ -11,3 +11,5 @@ mod commands;
 mod modules;
 #[cfg(test)]
 mod runs;
+#[cfg(test)]
+mod strands;

@@ -1,0 +1,11 @@
+pub mod Finishing
+pub mod Gathering
+pub mod GoingBack
+pub mod Leading
+pub mod Lists
+pub mod Moves
+pub mod Picks
+pub mod RootLeading
+pub mod Roots
+pub mod Solving
+pub mod Steps
