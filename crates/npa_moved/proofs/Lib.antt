@@ -1,0 +1,14 @@
+pub mod Drafting
+pub mod Drawing
+pub mod Finished
+pub mod Fit
+pub mod FitMoves
+pub mod FitRoots
+pub mod Making
+pub mod NamedMoves
+pub mod Plain
+pub mod Renumbering
+pub mod Sound
+pub mod SoundMoves
+pub mod SoundRoots
+pub mod StepMoves

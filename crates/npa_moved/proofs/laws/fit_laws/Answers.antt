@@ -1,0 +1,19 @@
+use Rattle.std.proofs.Common.{◌≡◌, ℕ, subst}
+use Rattle.npa_sorts.specs.Subsorts.{AreSorts, IsBelow}
+use Rattle.npa_moved.proofs.Fit.{all_variants, narrowing, roots_fit, steps_fit}
+use Rattle.npa_moved.proofs.laws.fit_laws.Goals as goal
+
+pub returns : goal.returns
+returns c =
+    let now = c.args.ready.now in
+    let o = now.sig.sorts in
+    let order : c.sorts-sorts.result.now ≡ o = cc in
+    let sorts : AreSorts o = subst AreSorts order c.pairs-pairs.ensures.sorts in
+    let acyclic : (r : ℕ) → IsBelow o r r → ⊥ = subst (λ s. (r : ℕ) → IsBelow s r r → ⊥) order c.laws.ensures.acyclic in
+    let ready = c.laws-2.ensures in
+    let can = narrowing now ready.cancelling ready.convergent ready.formed ready.plain sorts acyclic in
+    let varied = all_variants now c.look_up.ensures ready.variants in
+    record {
+      steps = steps_fit now can varied;
+      roots = roots_fit now can varied;
+    }

@@ -1,0 +1,4 @@
+pub mod Adding
+pub mod Covered
+pub mod Kept
+pub mod Zipped

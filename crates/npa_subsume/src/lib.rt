@@ -1,0 +1,9 @@
+//! Whether a pattern covers another: one substitution sends it into the other, modulo commutativity.
+#![tactic(auto)]
+
+mod askers;
+mod cover;
+mod early;
+mod found;
+
+pub use cover::{Cover, covers, covers_by};
