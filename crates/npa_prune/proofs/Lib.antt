@@ -1,0 +1,10 @@
+pub mod Carried
+pub mod Flattened
+pub mod Hearing
+pub mod Owning
+pub mod Parting
+pub mod Ranking
+pub mod Reducing
+pub mod Repeated
+pub mod Searching
+pub mod Unmet
