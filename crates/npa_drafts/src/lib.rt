@@ -6,7 +6,9 @@ mod drafting;
 mod instances;
 mod measuring;
 mod numbering;
+mod results;
 
 pub use drafting::{Draft, draw, keeps_apart};
 pub use measuring::excess;
 pub use numbering::{Numbered, number_anew};
+pub use results::results_by;
