@@ -65,13 +65,21 @@ fn bound(alloc: Global, vars: &[Var], values: &[Term]) -> Result<Subst, NoMemory
 fn all_terms(alloc: Global, d: &Draft) -> Result<Terms, NoMemory>
     ensures { IfOk result (λ terms. terms ≡ pattern_terms d.now.pattern ++ d.now.values) }
 {
-    let mut terms = List::new(alloc);
-    for p in d.pattern.strands.as_slice() {
-        add_strand_terms(alloc, &mut terms, p)?;
-    }
-    add_terms(alloc, &mut terms, d.pattern.known.as_slice())?;
-    add_terms(alloc, &mut terms, d.pattern.unknown.as_slice())?;
+    let mut terms = pattern_terms(alloc, &d.pattern)?;
     add_terms(alloc, &mut terms, d.values.as_slice())?;
+    Ok(terms)
+}
+
+/// The terms of a pattern, in their order.
+pub(crate) fn pattern_terms(alloc: Global, p: &Pattern) -> Result<Terms, NoMemory>
+    ensures { IfOk result (λ terms. terms ≡ pattern_terms p.now) }
+{
+    let mut terms = List::new(alloc);
+    for strand in p.strands.as_slice() {
+        add_strand_terms(alloc, &mut terms, strand)?;
+    }
+    add_terms(alloc, &mut terms, p.known.as_slice())?;
+    add_terms(alloc, &mut terms, p.unknown.as_slice())?;
     Ok(terms)
 }
 
