@@ -1,5 +1,5 @@
 -- What no substitution unifies with a message, none does with more besides.
-use Rattle.std.proofs.Common.{◌≡◌, ℕ, ◌+◌, ◌<◌, Ok, List, [], ◌∷◌, ◌++◌, map, inl, inr, refl, sym, ◌∙◌, ap, subst, Contains}
+use Rattle.std.proofs.Common.{◌≡◌, ℕ, Ok, List, [], ◌∷◌, ◌++◌, inl, inr, sym, ◌∙◌, ap, subst, Contains}
 use Rattle.std.proofs.lemmas.List.{append-nil}
 use Rattle.std.proofs.lemmas.List.Elements.{Contains-append_left, Contains-append_right, Contains-append_cases}
 use Rattle.npa_sorts.specs.Subsorts.{Subsorts, AreSorts}
@@ -7,7 +7,7 @@ use Rattle.npa_sorts.proofs.LowerLaws.{IsAcyclic}
 use Rattle.npa_term.specs.declared.term.Term.{Term}
 use Rattle.npa_term.specs.declared.term.Var.{Var as Variable}
 use Rattle.npa_term.specs.Variables.{variables}
-use Rattle.npa_unify.specs.Answers.{judged, unifiers}
+use Rattle.npa_unify.specs.Answers.{judged}
 use Rattle.npa_unify.specs.Branches.{pair_variables}
 use Rattle.npa_unify.specs.Seen.{AreNeverEqual}
 use Rattle.npa_unify.specs.Unifiers.{AreLow, IsUnifier}

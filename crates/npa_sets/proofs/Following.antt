@@ -1,5 +1,5 @@
 -- Picks are tried one after the other, and those that take more of what is cut aren't.
-use Rattle.std.proofs.Common.{◌≡◌, ℕ, zero, suc, ◌+◌, ◌<◌, ◌≤◌, Result, Ok, Err, Some, List, [], ◌∷◌, ◌++◌, length, drop, slice_get, get_or, drop-cons, inl, inr, refl, sym, ◌∙◌, ap, subst, arith, Contains}
+use Rattle.std.proofs.Common.{◌≡◌, ℕ, zero, suc, ◌+◌, Result, Ok, Err, Some, List, [], ◌∷◌, ◌++◌, drop, slice_get, get_or, drop-cons, inl, inr, refl, sym, ◌∙◌, ap, subst, arith, Contains}
 use Rattle.std.specs.Borrow.{Bor}
 use Rattle.std.proofs.lemmas.List.{append_assoc}
 use Rattle.std.proofs.lemmas.Option.{get_or_from_slice_get, slice_get_within}

@@ -1,5 +1,5 @@
 -- What unification answers for the pairs that are made.
-use Rattle.std.proofs.Common.{◌≡◌, ℕ, Result, Ok, Err, IfOk, List, [], refl, sym, ◌∙◌, ap, subst, Contains}
+use Rattle.std.proofs.Common.{◌≡◌, ℕ, Result, Ok, Err, IfOk, List, [], refl, sym, ◌∙◌, ap, Contains}
 use Rattle.std.specs.Result.{IsErrOf}
 use Rattle.npa_sorts.specs.Subsorts.{Subsorts, AreSorts}
 use Rattle.npa_sorts.proofs.LowerLaws.{IsAcyclic}

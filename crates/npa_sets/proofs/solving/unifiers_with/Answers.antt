@@ -1,8 +1,6 @@
-use Rattle.std.proofs.Common.{◌≡◌, ◌++◌, ◌∷◌, [], Ok, Err, Result, List, sym, ◌∙◌, ap, subst}
+use Rattle.std.proofs.Common.{◌++◌, ◌∷◌, [], Ok, sym, ◌∙◌, ap}
 use Rattle.npa_variants.specs.Told.{seen}
 use Rattle.npa_moves.specs.Moves.{each_with}
-use Rattle.npa_moves.specs.Steps.{solve_over}
-use Rattle.npa_sets.specs.Told.{GivesUnifiers}
 use Rattle.npa_sets.proofs.Cutting.{cut_by_last, cut_itself, with_last}
 use Rattle.npa_sets.proofs.Unifying.{given_unifiers, cut_unifiers}
 use Rattle.npa_sets.proofs.solving.unifiers_with.Goals as goal
