@@ -39,7 +39,8 @@ pub(crate) struct Found {
 ///
 /// `TooLarge` and `TooMany` are answered for the first set in order whose unification answers so, and
 /// `TooMany` too where all sets up to one have more than `MAX_UNIFIERS` unifiers together. Want of
-/// memory is also answered where `next` is past 2^31, which leaves no room for the numbers of new variables.
+/// memory is also answered where the pairs aren't fit for `unify`: a variable is of no sort, a number
+/// has two sorts, or `next` is past 2^31, which leaves no room for the numbers of new variables.
 pub fn fact_sets(
     alloc: Global,
     sorts: &Sorts,
