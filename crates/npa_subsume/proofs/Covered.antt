@@ -26,15 +26,15 @@ use Rattle.npa_subsume.specs.Offering.{AreKindred, strand_pairs, OfStrand, OfFac
 use Rattle.npa_subsume.proofs.Adding.{old_kept, new_at, new_cases}
 use Rattle.npa_subsume.proofs.Zipped.{left_of_zip, beside, same_of_zip, zip_of_same, same_length}
 
--- from members that are there for each number below n, a list of them
-pub collect : (P : ℕ → ℕ → Type 0) (n : ℕ) → ((k : ℕ) → k < n → (m : ℕ) × P k m) → (at : List ℕ) × (length at ≡ n) × ((k m : ℕ) → slice_get at k ≡ Some m → P k m)
+-- from a thing that is there for each number below n, a list of them
+pub collect : {X : Type 0} (P : ℕ → X → Type 0) (n : ℕ) → ((k : ℕ) → k < n → (m : X) × P k m) → (at : List X) × (length at ≡ n) × ((k : ℕ) (m : X) → slice_get at k ≡ Some m → P k m)
 collect P zero each = ([], refl, λ k m e. absurd (none-some m e))
-collect P (suc n) each =
+collect {X} P (suc n) each =
     let one = each 0 (omega arith) in
-    let rest = collect (λ k m. P (suc k) m) n (λ k l. each (suc k) (omega (arith, l))) in
+    let rest = collect (λ (k : ℕ) (m : X). P (suc k) m) n (λ k l. each (suc k) (omega (arith, l))) in
     (one.0 ∷ rest.0, ap (λ m. suc m) rest.1, members one.0 one.1 rest.0 rest.2)
   where
-    members : (x : ℕ) → P 0 x → (xs : List ℕ) → ((k m : ℕ) → slice_get xs k ≡ Some m → P (suc k) m) → (k m : ℕ) → slice_get (x ∷ xs) k ≡ Some m → P k m
+    members : (x : X) → P 0 x → (xs : List X) → ((k : ℕ) (m : X) → slice_get xs k ≡ Some m → P (suc k) m) → (k : ℕ) (m : X) → slice_get (x ∷ xs) k ≡ Some m → P k m
     members x p xs more zero m e = subst (λ y. P 0 y) (same_Some x m e) p
     members x p xs more (suc k) m e = more k m e
 

@@ -2,6 +2,7 @@ ghost use Rattle.std.specs.Prelude.{◌≡◌, ◌↔◌, None, IsTrue, IfOk, If
 ghost use Rattle.npa_term.specs.Bound.{BindsOnce};
 ghost use Rattle.npa_match.specs.Matching.{bound_pairs};
 ghost use Rattle.npa_model.specs.Covering.{Covers, IsCover};
+ghost use Rattle.npa_subsume.specs.Testing.{covers_test};
 
 use crate::found::find_cover;
 use npa_list::List;
@@ -23,7 +24,8 @@ pub struct Cover {
 /// copied. It takes no memory where `t` has more strands of one number and bar than `s`, or a fact
 /// whose operator no such fact of `s` has.
 pub fn covers(alloc: Global, sorts: &Sorts, t: &Pattern, s: &Pattern) -> Result<bool, NoMemory>
-    ensures { IfOk result (λ yes. IsTrue yes ↔ Covers sorts.now t.now s.now) }
+    ensures exact { IfOk result (λ yes. IsTrue yes ↔ Covers sorts.now t.now s.now) }
+    ensures test { IfOk result (λ yes. yes ≡ covers_test sorts.now t.now s.now) }
 {
     Ok(find_cover(alloc, sorts, t, s)?.is_some())
 }

@@ -5,5 +5,7 @@ mod askers;
 mod cover;
 mod early;
 mod found;
+mod laws;
 
 pub use cover::{Cover, covers, covers_by};
+pub use laws::covering_laws;
