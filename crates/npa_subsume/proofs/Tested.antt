@@ -23,7 +23,7 @@ use Rattle.npa_model.specs.Patterns.{map_strand, IsTermOf, of_args, of_msgs, of_
 use Rattle.npa_model.specs.Covering.{HasSame, AreAlike, IsCover, Covers}
 use Rattle.npa_model.proofs.Places.{place_of, member_at, mapped_at, at_mapped, member_mapped, mapped_member}
 use Rattle.npa_subsume.specs.Offering.{AreKindred, strand_pairs}
-use Rattle.npa_subsume.specs.Testing.{rows_of, are_different, is_kindred, sent_terms, sent_pairs, sends, sends_known, sends_strands, covers_test, is_unmoved, is_without, initial_test}
+use Rattle.npa_subsume.specs.Testing.{rows_of, are_different, is_kindred, sent_terms, sent_pairs, sends, sends_known, sends_strands, covers_test, is_unmoved, is_empty, initial_test}
 use Rattle.npa_subsume.proofs.Covered.{collect}
 use Rattle.npa_subsume.proofs.Ways.{any_to, any_from, all_to, all_from, flat_to, flat_from, some_with, some_since, same_truth, row_length, row_member, is_row, placed_to, placed_from, different_to, different_from, zip_at, at_zip}
 use Rattle.npa_subsume.proofs.Zipped.{left_of_zip, beside, same_of_zip, zip_of_same, same_length}
@@ -286,14 +286,14 @@ covers_exact o t s = (λ e. test_covers o t s e, λ c. cover_test o t s c.0 c.1 
 
 -- ## Initial patterns
 
-known_to : (ts : List Term) → is_without ts ≡ true → ts ≡ []
+known_to : (ts : List Term) → is_empty ts ≡ true → ts ≡ []
 known_to [] e = refl
 known_to (t ∷ ts) e = absurd (true≢false (sym e))
 
 initial_to : (g : Pattern) → initial_test g ≡ true → IsInitial g
 unfolding initial_test
 initial_to g e =
-    let both = and_parts (is_without g.known) (list_all is_unmoved g.strands) e in
+    let both = and_parts (is_empty g.known) (list_all is_unmoved g.strands) e in
     record {
       bars = λ k p d. eqb-true p.bar 0 (all_to is_unmoved g.strands both.1 p (member_at g.strands k p d));
       known = known_to g.known both.0;
@@ -302,7 +302,7 @@ initial_to g e =
 initial_from : (g : Pattern) → IsInitial g → initial_test g ≡ true
 unfolding initial_test
 initial_from g initial =
-    and_from (is_without g.known) (list_all is_unmoved g.strands) (ap is_without initial.known)
+    and_from (is_empty g.known) (list_all is_unmoved g.strands) (ap is_empty initial.known)
     (all_from is_unmoved g.strands (λ p c. let k = place_of g.strands p c in eq-eqb p.bar 0 (initial.bars k.0 p k.1)))
 
 pub initial_exact : (g : Pattern) → IsTrue (initial_test g) ↔ IsInitial g
