@@ -1,0 +1,4 @@
+pub mod Aimed
+pub mod Alike
+pub mod Descent
+pub mod Unreached
