@@ -1,6 +1,6 @@
 //! Laws of closed lists of patterns, for the proofs of the crates above.
 
-ghost use Rattle.std.specs.Prelude.{◌≡◌, Contains, List as ListOf, Ok};
+ghost use Rattle.std.specs.Prelude.{◌≡◌, ◌↔◌, Contains, List as ListOf, Ok};
 ghost use Rattle.npa_term.specs.declared.term.Term.{Term as Tree};
 ghost use Rattle.npa_term.specs.declared.term.Var.{Var as Variable};
 ghost use Rattle.npa_rewrite.specs.Rewriting.{GivesNormalForms};
@@ -15,9 +15,9 @@ ghost use Rattle.npa_model.specs.Meeting.{MeetsBy};
 ghost use Rattle.npa_model.specs.WellFormed.{IsPlainAim, IsWellFormedAim};
 ghost use Rattle.npa_moves.specs.declared.step.Root.{Root as Begin};
 ghost use Rattle.npa_moves.specs.Roots.{roots_in};
-ghost use Rattle.npa_closed.specs.Closed.{IsListClosed};
+ghost use Rattle.npa_closed.specs.Closed.{HasLists, IsClosed, IsListClosed};
 
-use npa_moved::fit_laws;
+use npa_moved::{fit_laws, sound_root_laws, sound_step_laws};
 use npa_moves::{root_laws, step_laws};
 use npa_prune::prune_laws;
 use npa_rewrite::normalizing_laws;
@@ -48,6 +48,22 @@ pub fn closed_laws(ready: &Ready)
     normalizing_laws();
     prune_laws(ready);
     fit_laws(ready);
+    root_laws(ready);
+    step_laws(ready);
+}
+
+/// Does nothing: a list is closed for a well-formed aim without fresh names exactly where it is closed
+/// whatever a search for unifiers finds, and no list of roots or of a member's steps is too large.
+pub fn any_unifier_laws(ready: &Ready)
+    ensures { (aim : Goal) (members : ListOf State)
+        → IsWellFormedAim ready.now.sig ready.now.strands aim → IsPlainAim aim
+        → IsListClosed ready.now aim members
+        ↔ (IsClosed ready.now aim members × HasLists ready.now aim members) }
+{
+    prune_laws(ready);
+    fit_laws(ready);
+    sound_root_laws(ready);
+    sound_step_laws(ready);
     root_laws(ready);
     step_laws(ready);
 }

@@ -4,4 +4,4 @@
 
 mod laws;
 
-pub use laws::closed_laws;
+pub use laws::{any_unifier_laws, closed_laws};
