@@ -1,0 +1,5 @@
+pub mod Aimed
+pub mod Alike
+pub mod AnyUnifier
+pub mod Descent
+pub mod Unreached
