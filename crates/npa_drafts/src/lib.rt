@@ -12,7 +12,7 @@ mod variables;
 
 pub use drafting::{Draft, draw, keeps_apart};
 pub use measuring::excess;
-pub use moving::{before_introducing, before_learning, before_receive, before_send};
+pub use moving::{before_introducing, before_learning, before_receive, before_send, last_message};
 pub use numbering::{Numbered, number_anew};
 pub use results::results_by;
 pub use variables::variables_once;

@@ -153,8 +153,8 @@ fn set_back(alloc: Global, p: &PStrand) -> Result<PStrand, NoMemory>
     })
 }
 
-// The message of the event directly before a strand's bar.
-fn last_message(alloc: Global, p: &PStrand) -> Result<Term, NoMemory>
+/// The message of the event directly before a strand's bar; where there is none, a fresh name.
+pub fn last_message(alloc: Global, p: &PStrand) -> Result<Term, NoMemory>
     ensures { IfOk result (λ m. m ≡ last_of p.now) }
 {
     match p.msgs.get(p.bar.saturating_sub(1) as usize) {
